@@ -1,0 +1,40 @@
+-- A well opened register starts with the same copy at every machine. Assumes nothing.
+use mathlib.Core.Path.{_≡_, refl, subst}
+use mathlib.Core.Bool.{Bool, true, false}
+use mathlib.Core.List.{List, [], _∷_}
+use Prim.Native.Nat.{ℕ, _<_}
+use native.Mathlib.Omega.{arith}
+use lib.ListN.{length}
+use Rattle.std.proofs.shelf.Lists.{ext-getD}
+use Rattle.std.proofs.shelf.Tests.{eqb-true, or-parts, not-false}
+use Rattle.std.proofs.shelf.Ways.{decides-below-and}
+use Rattle.stores.specs.Rows.{StoreState, place-count, store-at}
+use Rattle.model.specs.Checks.{first, Check}
+use Rattle.model.specs.Opening.{all-to, same-counts, same-value, same-values, wrong-machine-count, wrong-object-counts, copies-differ, opening-number}
+
+pub all-to-each : (n : ℕ) (test : ℕ → Bool) → all-to n test ≡ true → (k : ℕ) → k < n → test k ≡ true
+all-to-each n test = decides-below-and test (λ k. test k ≡ true) (λ m. all-to m test) (λ k. ((λ e. e), (λ e. e))) refl (λ _. refl) n .0
+
+-- where no check fails, the first does not, if its number is not 0
+pub first-passes : (check : Check) (rest : List Check) → (check .0 ≡ 0 → ⊥) → first (check ∷ rest) ≡ 0 → (check .1 ≡ false) × (first rest ≡ 0)
+first-passes (number, true) rest other h = absurd (other h)
+first-passes (number, false) rest other h = (refl, h)
+
+module _ (stores : List StoreState) (well : opening-number stores ≡ 0) where
+  after-machines : first (wrong-object-counts stores ∷ copies-differ stores ∷ []) ≡ 0
+  after-machines = first-passes (wrong-machine-count stores) (wrong-object-counts stores ∷ copies-differ stores ∷ []) (λ e. omega arith) well .1
+
+  counts-agree : all-to (place-count stores) (same-counts stores) ≡ true
+  counts-agree = not-false _ (or-parts _ _ (first-passes (wrong-object-counts stores) (copies-differ stores ∷ []) (λ e. omega arith) after-machines .0) .1)
+
+  copies-agree : all-to (place-count stores) (same-values stores) ≡ true
+  copies-agree =
+      let last = first-passes (wrong-object-counts stores) (copies-differ stores ∷ []) (λ e. omega arith) after-machines .1 in
+      not-false _ (first-passes (copies-differ stores) [] (λ e. omega arith) last .0)
+
+  pub alike : (s : ℕ) → s < place-count stores → store-at stores s .values ≡ store-at stores 0 .values
+  alike s within =
+      let long : length (store-at stores s .values) ≡ length (store-at stores 0 .values) = eqb-true _ _ (all-to-each (place-count stores) (same-counts stores) counts-agree s within) in
+      let each = all-to-each (place-count stores) (same-values stores) copies-agree s within in
+      ext-getD 0 _ _ long
+      (λ o below. eqb-true _ _ (all-to-each (length (store-at stores 0 .values)) (same-value stores s) each o (subst (λ (n : ℕ). o < n) long below)))

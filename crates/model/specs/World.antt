@@ -1,0 +1,25 @@
+-- What a register means. Assumes nothing.
+use mathlib.Core.List.{List}
+use mathlib.Core.Bool.{Bool, false}
+use Prim.Native.Nat.{ℕ}
+use lib.ListN.{length, getD}
+use Rattle.stores.specs.Rows.{StoreState, place-count, store-at}
+
+-- opening is 0, or the number that the opening was refused with; up has a flag for each machine
+pub record World : Type 0 where
+  pub opening : ℕ
+  pub up : List Bool
+  pub stores : List StoreState
+
+-- machine s has the store at place s, and its copy is that store's values
+abbrev pub machines : World → ℕ
+machines w = place-count (w .stores)
+
+abbrev pub copy : World → ℕ → List ℕ
+copy w s = store-at (w .stores) s .values
+
+abbrev pub objects : World → ℕ
+objects w = length (copy w 0)
+
+abbrev pub is-up : World → ℕ → Bool
+is-up w s = getD (w .up) s false
