@@ -18,7 +18,9 @@ use Rattle.register.specs.Outcomes.{event-of}
 use Rattle.runfile.specs.FileFormat.{calls-of, end-of}
 use Rattle.runfile.specs.HeaderFormat.{opening-values}
 use Rattle.runfile.specs.declared.faults.RunFault.{RunFault}
-use Rattle.runfile.specs.declared.faults.RunFault.the-variants.{Header}
+use Rattle.runfile.specs.declared.faults.RunFault.the-variants.{Header as HeaderBroken}
+use Rattle.runfile.specs.declared.faults.HeaderFault.{HeaderFault}
+use Rattle.runfile.specs.declared.header.Header.{Header}
 use Rattle.runs.specs.Fitting.{fitting-header}
 use Rattle.runs.specs.Loading.{Loaded}
 
@@ -46,11 +48,12 @@ pub record FileRun (stores : List StoreState) (file : List ℕ) (outcomes : List
   pub one-copy : OneCopy (opening-values file) (history (calls-of file) outcomes) w
 
 -- where the header is faulty or the row does not fit, nothing is loaded and no step is run
+abbrev pub FinishesAt : Result Header HeaderFault → List StoreState → List ℕ → List Outcome → Option RunFault → World → Type 0
+FinishesAt (Ok header) stores file outcomes fault w = FileRun stores file outcomes fault w
+FinishesAt (Err f) stores file outcomes fault w = (outcomes ≡ []) × (fault ≡ Some (HeaderBroken f)) × (w ≡ opened stores)
+
 abbrev pub Finishes : List StoreState → List ℕ → List Outcome → Option RunFault → World → Type 0
-Finishes stores file outcomes fault w =
-    elim (fitting-header stores file) [
-      Ok header ↦ FileRun stores file outcomes fault w
-    | Err f ↦ (outcomes ≡ []) × (fault ≡ Some (Header f)) × (w ≡ opened stores) ]
+Finishes stores file outcomes fault w = FinishesAt (fitting-header stores file) stores file outcomes fault w
 
 -- how the steps ended
 abbrev pub ended-with : Result (Unit {0}) RunFault → Option RunFault

@@ -54,7 +54,7 @@ pub impl Store for TableStore as TableStoreStore {
     }
 
     fn put(&mut self, object: usize, value: u32) -> Result<(), PutRefusal> {
-        if object >= self.values.len() {
+        if object >= self.object_count() {
             return Err(PutRefusal::NoSuchObject);
         }
         self.values[object] = value;
