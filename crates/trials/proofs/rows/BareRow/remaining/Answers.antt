@@ -1,0 +1,7 @@
+use mathlib.Core.Path.{sym}
+use native.Mathlib.Omega.{arith}
+use Rattle.trials.proofs.BareRows.{answers-there}
+use Rattle.trials.proofs.rows.BareRow.remaining.Needs as need
+
+pub returns-then-place-count : need.returns-then-place-count
+returns-then-place-count c = sym (answers-there (c .args .self .now .count) (c .args .place) (λ s. s .room) (omega arith))
