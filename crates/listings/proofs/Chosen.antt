@@ -39,14 +39,14 @@ finishes-broken file stores f (Err e′) e = let same : e′ ≡ f = cc in (refl
 module _ {S E : Type 0} (bytes : S → List ℕ) (file : List ℕ) where
   -- the row that was made is the one that the file is to be listed over
   pub listed-over : (header : Header) (stores : List StoreState) → Ok header ≡ header-of file → stores ≡ listing-stores (header .machines) (header .objects)
-    → (r : Result S E) → made r (λ text. Listed stores file (bytes text)) → made r (λ text. ListedFile file (bytes text))
+      → (r : Result S E) → made r (λ text. Listed stores file (bytes text)) → made r (λ text. ListedFile file (bytes text))
   listed-over header stores reading same r =
       let sound = sound-at-ok file header reading in
       let row : stores ≡ listing-stores (machine-count file) (object-count file) = same ∙ ap (λ m. listing-stores m (header .objects)) (sound .machines-are) ∙ ap (listing-stores (machine-count file)) (sound .objects-are) in
       made-weaker r (λ text. Listed stores file (bytes text)) (λ text. ListedFile file (bytes text)) (λ text l. subst (λ (s : List StoreState). Listed s file (bytes text)) row l)
 
   listed-nothing : (stores : List StoreState) (f : HeaderFault) → fitting-header stores file ≡ Err f
-    → (r : Result S E) → made r (λ text. bytes text ≡ listing-text [] (Some (HeaderBroken f))) → made r (λ text. Listed stores file (bytes text))
+      → (r : Result S E) → made r (λ text. bytes text ≡ listing-text [] (Some (HeaderBroken f))) → made r (λ text. Listed stores file (bytes text))
   listed-nothing stores f broken r =
       made-weaker r (λ text. bytes text ≡ listing-text [] (Some (HeaderBroken f))) (λ text. Listed stores file (bytes text))
       (λ text lines. record {
@@ -58,18 +58,18 @@ module _ {S E : Type 0} (bytes : S → List ℕ) (file : List ℕ) where
       })
 
   pub listed-unsound : (f : HeaderFault) → Err f ≡ header-of file
-    → (r : Result S E) → made r (λ text. bytes text ≡ listing-text [] (Some (HeaderBroken f))) → made r (λ text. ListedFile file (bytes text))
+      → (r : Result S E) → made r (λ text. bytes text ≡ listing-text [] (Some (HeaderBroken f))) → made r (λ text. ListedFile file (bytes text))
   listed-unsound f reading =
       let stores = listing-stores (machine-count file) (object-count file) in
       listed-nothing stores f (ap (fitting-from stores) (sym reading))
 
   -- no row is made for this machine count
   pub listed-elsewhere : (header : Header) → Ok header ≡ header-of file → (header .machines ≡ 1 → ⊥) → (header .machines ≡ 2 → ⊥) → (header .machines ≡ 8 → ⊥)
-    → (r : Result S E) → made r (λ text. bytes text ≡ listing-text [] (Some (HeaderBroken (record { kind = RowDiffers; byte = 0 })))) → made r (λ text. ListedFile file (bytes text))
+      → (r : Result S E) → made r (λ text. bytes text ≡ listing-text [] (Some (HeaderBroken (record { kind = RowDiffers; byte = 0 })))) → made r (λ text. ListedFile file (bytes text))
   listed-elsewhere header reading not-one not-two not-eight r listed =
       let sound = sound-at-ok file header reading in
       let none : [] ≡ listing-stores (header .machines) (header .objects) =
-          sym (cond-false _ _ _ (ne-eqb _ _ not-one) ∙ cond-false _ _ _ (ne-eqb _ _ not-two) ∙ cond-false _ _ _ (ne-eqb _ _ not-eight)) in
+      sym (cond-false _ _ _ (ne-eqb _ _ not-one) ∙ cond-false _ _ _ (ne-eqb _ _ not-two) ∙ cond-false _ _ _ (ne-eqb _ _ not-eight)) in
       let apart : not (eqb 0 (header .machines)) ≡ true = not-from-false _ (ne-eqb 0 (header .machines) (λ e. omega (arith, sound .some-machine))) in
       listed-over header [] reading none r
       (listed-nothing [] (record { kind = RowDiffers; byte = 0 }) (ap (fitting-from []) (sym reading) ∙ cond-true _ _ _ apart) r listed)

@@ -10,7 +10,6 @@ ghost use Rattle.runfile.specs.declared.faults.RunFault.the-variants.{Header as
 ghost use Rattle.runs.specs.Fitting.{fitting-header};
 ghost use Rattle.listings.specs.Listed.{Listed, ListedFile};
 ghost use Rattle.listings.specs.Text.{listing-text};
-
 use crate::text::listing_text;
 use runfile::Header;
 use runfile::HeaderFault;
@@ -20,16 +19,16 @@ use runfile::read_header;
 use runs::run;
 use std::alloc::AllocError;
 use std::alloc::Global;
-use stores::MakeError;
-use stores::traits::MakeErrorFromAlloc;
-use stores::OneRow;
 use stores::JoinRow;
-use stores::TableStoreStore;
 use stores::JournalStoreStore;
+use stores::MakeError;
+use stores::OneRow;
 use stores::Row;
+use stores::TableStoreStore;
 use stores::mixed::eight_row;
 use stores::mixed::pair_row;
 use stores::mixed::single_row;
+use stores::traits::MakeErrorFromAlloc;
 
 // The whole listing. It can fail only for want of memory.
 pub fn list_file(heap: Global, file: &[u8]) -> Result<String, MakeError>
@@ -51,7 +50,13 @@ fn list_sound(heap: Global, file: &[u8], header: Header) -> Result<String, MakeE
         1 => list_over(heap, file, single_row(heap, objects)?),
         2 => list_over(heap, file, pair_row(heap, objects)?),
         8 => list_over(heap, file, eight_row(heap, objects)?),
-        _ => list_nothing(heap, HeaderFault { kind: HeaderFaultKind::RowDiffers, byte: 0 }),
+        _ => list_nothing(
+            heap,
+            HeaderFault {
+                kind: HeaderFaultKind::RowDiffers,
+                byte: 0,
+            },
+        ),
     }
 }
 

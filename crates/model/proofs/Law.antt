@@ -28,8 +28,8 @@ module _ (stores : List StoreState) (history : History) (w : World) (run : Run (
   at-event later earlier event split = moment-of (opened stores) later earlier event w (subst (λ (h : History). Run (opened stores) h w) split run)
 
   reads-agree : opening-number stores ≡ 0 → (later earlier : History) (event : Event) (s : ℕ) (list : List ℕ) (buffer : ℕ)
-    → history ≡ later ++ (event ∷ earlier) → event .call ≡ read s list buffer → event .number ≡ 0
-    → event .values ≡ picked (store-at stores 0 .values) list
+      → history ≡ later ++ (event ∷ earlier) → event .call ≡ read s list buffer → event .number ≡ 0
+      → event .values ≡ picked (store-at stores 0 .values) list
   reads-agree well later earlier event s list buffer split called accepted =
       let m = at-event later earlier event split in
       let v = m .before in
@@ -39,7 +39,7 @@ module _ (stores : List StoreState) (history : History) (w : World) (run : Run (
       m .step .accepted accepted .values ∙ ap (λ c. values-of c v) called ∙ ap (λ xs. picked xs list) same
 
   refusals-agree : (opening-number stores ≡ 0 → ⊥) → (later earlier : History) (event : Event)
-    → history ≡ later ++ (event ∷ earlier) → event .number ≡ opening-number stores
+      → history ≡ later ++ (event ∷ earlier) → event .number ≡ opening-number stores
   refusals-agree other later earlier event split =
       let m = at-event later earlier event split in
       let kept = run-keeps (opened stores) earlier (m .before) (m .run) in

@@ -35,8 +35,9 @@ tidied : (before after : List StoreState) (s : ℕ) → after ≡ set before s (
 tidied before after s others change = record {
   count = ap length others ∙ length-set before s _;
   copies = λ k. elim (cases-eq k s) [
-      inl e ↦ ap (λ n. store-at after n .values) e ∙ change .values ∙ ap (λ n. store-at before n .values) (sym e)
-    | inr other ↦ ap (λ x. store-at x k .values) others ∙ ap (λ x. x .values) (getD-set-other before s k (store-at after s) no-store other) ];
+    | inl e ↦ ap (λ n. store-at after n .values) e ∙ change .values ∙ ap (λ n. store-at before n .values) (sym e)
+    | inr other ↦ ap (λ x. store-at x k .values) others ∙ ap (λ x. x .values) (getD-set-other before s k (store-at after s) no-store other)
+  ];
 }
 
 stores-kept : (call : Call) (before after : List StoreState) → StoresAfter call before after → SameCopies before after
@@ -48,11 +49,12 @@ stores-kept (read s list buffer) before after e = untouched before after e
 pub step-keeps : (w : World) (event : Event) (w′ : World) → Step w event w′ → Kept w w′
 step-keeps w event w′ step =
     elim (cases-eq (event .number) 0) [
-      inl zero ↦
-        let done = step .accepted zero in
-        let same = stores-kept (event .call) (w .stores) (w′ .stores) (done .stores) in
-        record { opening = done .opening; count = same .count; copies = same .copies }
-    | inr other ↦ kept-none w w′ (step .refused other .0) ]
+      | inl zero ↦
+          let done = step .accepted zero in
+          let same = stores-kept (event .call) (w .stores) (w′ .stores) (done .stores) in
+          record { opening = done .opening; count = same .count; copies = same .copies }
+      | inr other ↦ kept-none w w′ (step .refused other .0)
+    ]
 
 pub run-keeps : (w : World) (history : History) (w′ : World) → Run w history w′ → Kept w w′
 run-keeps w [] w′ e = kept-none w w′ e

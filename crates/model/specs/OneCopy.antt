@@ -20,8 +20,8 @@ Run w (event ∷ history) w′ = (v : World) × Run w history v × Step v event 
 pub record OneCopy (opening : List ℕ) (history : History) (w : World) : Type 0 where
   -- every accepted read, at whichever machine, gave the values of the one copy
   pub reads : (later earlier : History) (event : Event) (s : ℕ) (list : List ℕ) (buffer : ℕ)
-    → history ≡ later ++ (event ∷ earlier) → event .call ≡ read s list buffer → event .number ≡ 0
-    → event .values ≡ picked opening list
+      → history ≡ later ++ (event ∷ earlier) → event .call ≡ read s list buffer → event .number ≡ 0
+      → event .values ≡ picked opening list
   -- every machine has the one copy
   pub copies : (s : ℕ) → s < machines w → copy w s ≡ opening
 
@@ -29,7 +29,7 @@ pub record OneCopy (opening : List ℕ) (history : History) (w : World) : Type 0
 pub record Lawful (stores : List StoreState) (history : History) (w : World) : Type 0 where
   pub kept : opening-number stores ≡ 0 → OneCopy (store-at stores 0 .values) history w
   pub refused : (opening-number stores ≡ 0 → ⊥) → (later earlier : History) (event : Event)
-    → history ≡ later ++ (event ∷ earlier) → event .number ≡ opening-number stores
+      → history ≡ later ++ (event ∷ earlier) → event .number ≡ opening-number stores
 
 abbrev pub OneCopyLaw : Type 0
 OneCopyLaw = (stores : List StoreState) (history : History) (w : World) → Run (opened stores) history w → Lawful stores history w

@@ -5,5 +5,4 @@ ghost use Rattle.model.specs.OneCopy.{OneCopyLaw};
 // Carries the proof that no order of calls, restarts and refusals makes two machines answer differently.
 pub fn one_copy_is_kept()
     ensures { λ _. ⌜ OneCopyLaw ⌝ }
-{
-}
+{}

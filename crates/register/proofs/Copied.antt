@@ -16,7 +16,7 @@ copied-more values list before now i value within fits so-far read =
     ∙ set-at (picked values (take i list)) (getD before i 0) (drop (i + 1) before) value i long
     ∙ ap (λ v. picked values (take i list) ++ (v ∷ drop (i + 1) before)) read
     ∙ sym (ap (λ xs. xs ++ drop (i + 1) before) (map-more (λ o. getD values o 0) list i 0 within)
-           ∙ append-assoc (picked values (take i list)) (getD values (getD list i 0) 0 ∷ []) (drop (i + 1) before))
+    ∙ append-assoc (picked values (take i list)) (getD values (getD list i 0) 0 ∷ []) (drop (i + 1) before))
 
 pub copied-all : (values list before now : List ℕ) (i : ℕ)
     → i ≡ length list → now ≡ picked values (take i list) ++ drop i before → now ≡ picked values list ++ drop (length list) before

@@ -22,14 +22,16 @@ passes-more test k so-far here = ap (λ n. all-to n test) (add-one k) ∙ cc
 pub fails-at : (n : ℕ) (test : ℕ → Bool) (k : ℕ) → k < n → test k ≡ false → false ≡ all-to n test
 fails-at n test k within fails =
     elim (cases-bool (all-to n test)) [
-      inl all ↦ absurd (both-ways (test k) fails (decides-below-and test (λ j. test j ≡ true) (λ m. all-to m test) (λ j. ((λ e. e), (λ e. e))) refl (λ _. refl) n .0 all k within))
-    | inr some ↦ sym some ]
+      | inl all ↦ absurd (both-ways (test k) fails (decides-below-and test (λ j. test j ≡ true) (λ m. all-to m test) (λ j. ((λ e. e), (λ e. e))) refl (λ _. refl) n .0 all k within))
+      | inr some ↦ sym some
+    ]
 
 value-or-zero : (values : List ℕ) (object : ℕ) → valueOr (value-at values object) 0 ≡ getD values object 0
 value-or-zero values object =
     elim (cases-lt object (length values)) [
-      inl within ↦ ap (λ b. valueOr (cond b (Some (getD values object 0)) None) 0) (lt-ltb _ _ within)
-    | inr past ↦ ap (λ b. valueOr (cond b (Some (getD values object 0)) None) 0) (le-ltb _ _ past) ∙ sym (getD-past values object 0 past) ]
+      | inl within ↦ ap (λ b. valueOr (cond b (Some (getD values object 0)) None) 0) (lt-ltb _ _ within)
+      | inr past ↦ ap (λ b. valueOr (cond b (Some (getD values object 0)) None) 0) (le-ltb _ _ past) ∙ sym (getD-past values object 0 past)
+    ]
 
 pub row-value-or-zero : (stores : List StoreState) (machine object : ℕ) → machine < place-count stores
     → valueOr (cond (has-place stores machine) (value-at (store-at stores machine .values) object) None) 0 ≡ getD (store-at stores machine .values) object 0

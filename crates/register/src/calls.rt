@@ -12,7 +12,6 @@ ghost use Rattle.model.specs.Steps.{Step, picked};
 ghost use Rattle.model.specs.World.{copy};
 ghost use Rattle.register.specs.Meaning.{world, called};
 ghost use Rattle.register.specs.Refusals.{answer-number};
-
 use crate::opening::value_at;
 use crate::reading::copy_values;
 use crate::refusals::Refusal;

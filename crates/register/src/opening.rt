@@ -6,7 +6,6 @@ ghost use Rattle.stores.specs.Rows.{place-count, store-at};
 ghost use Rattle.model.specs.Opening.{all-to, same-counts, same-value, same-values, opening-number, opened};
 ghost use Rattle.register.specs.Meaning.{world};
 ghost use Rattle.register.specs.Refusals.{refused-number};
-
 use crate::refusals::Refusal;
 use crate::registers::Register;
 use stores::Row;
@@ -16,7 +15,11 @@ impl<R: Row> Register<R> {
         ensures { λ r. ⌜ world (R·Row .stores) r ≡ opened (R·Row .stores row) ⌝ }
     {
         let refusal = opening_refusal(&row);
-        Register { row, refusal, up: [true; 8] }
+        Register {
+            row,
+            refusal,
+            up: [true; 8],
+        }
     }
 }
 

@@ -13,7 +13,6 @@ ghost use Rattle.model.specs.Steps.{picked};
 ghost use Rattle.model.specs.World.{machines as machine-count, objects as object-total, is-up};
 ghost use Rattle.register.specs.Meaning.{world, with-up};
 ghost use Rattle.register.specs.Refusals.{answer-number};
-
 use crate::opening::value_at;
 use crate::refusals::Refusal;
 use crate::refusals::RefusalFromListFault;

@@ -3,7 +3,6 @@ ghost use mathlib.Core.Path.{_≡_};
 ghost use Rattle.orders.specs.declared.faults.ListFault.{ListFault};
 ghost use Rattle.register.specs.Refusals.{refusal-number};
 ghost use Rattle.register.specs.declared.refusals.Refusal.the-variants.{List};
-
 use orders::ListFault;
 use orders::faults::ListFaultDebug;
 use orders::faults::ListFaultPartialEq;

@@ -35,20 +35,21 @@ pub loaded-more : (before now next : List StoreState) (values : List ℕ) (m : �
 loaded-more before now next values m so-far here others filled =
     let written : next ≡ set now m (store-at next m) = others ∙ cond-true _ _ _ here in
     let other : (s : ℕ) → s ≢ m → store-at next s ≡ store-at now s =
-        λ s apart. ap (λ xs. store-at xs s) written ∙ getD-set-other now m s (store-at next m) no-store apart in
+    λ s apart. ap (λ xs. store-at xs s) written ∙ getD-set-other now m s (store-at next m) no-store apart in
     record {
       count = ap length written ∙ length-set now m (store-at next m) ∙ so-far .count;
       done = λ s h. elim (cases-eq s m) [
-          inl e ↦
+        | inl e ↦
             subst (λ (k : ℕ). FilledTo values (length values) (store-at before k) (store-at next k)) (sym e)
             (subst (λ (x : StoreState). FilledTo values (length values) x (store-at next m)) (so-far .rest m (omega arith)) filled)
         | inr apart ↦
             let below : s < m = omega arith in
-            subst (λ (x : StoreState). FilledTo values (length values) (store-at before s) x) (sym (other s apart)) (so-far .done s below) ];
+            subst (λ (x : StoreState). FilledTo values (length values) (store-at before s) x) (sym (other s apart)) (so-far .done s below)
+      ];
       rest = λ s h.
-        let apart : s ≢ m = λ e. omega arith in
-        let past : m ≤ s = omega arith in
-        other s apart ∙ so-far .rest s past;
+          let apart : s ≢ m = λ e. omega arith in
+          let past : m ≤ s = omega arith in
+          other s apart ∙ so-far .rest s past;
     }
 
 pub loaded-all : (before after : List StoreState) (values : List ℕ) (m : ℕ) → LoadedTo before values m after → length before ≤ m → Loaded before values after

@@ -25,7 +25,7 @@ use Rattle.runs.proofs.Fitted.{Fit, fits}
 use Rattle.runs.proofs.WellOpened.{loaded-values, well-opened, loaded-one-copy}
 
 module _ (stores : List StoreState) (file : List ℕ) (header : Header) (loaded : List StoreState)
-  (ample : AmpleFloors stores) (fitting : fitting-header stores file ≡ Ok header) (loading : Loaded stores (opening-values file) loaded) where
+    (ample : AmpleFloors stores) (fitting : fitting-header stores file ≡ Ok header) (loading : Loaded stores (opening-values file) loaded) where
   fit : Fit stores file header
   fit = fits stores file header fitting
 
@@ -46,9 +46,9 @@ module _ (stores : List StoreState) (file : List ℕ) (header : Header) (loaded 
       alike
 
   pub file-run : (outcomes : List Outcome) (fault : Option RunFault) (w : World)
-    → Ran (opened loaded) (calls-from (header .steps) file (value-place (header .objects))) outcomes w
-    → fault ≡ end-from (header .steps) file (value-place (header .objects)) 0
-    → FileRun stores file outcomes fault w
+      → Ran (opened loaded) (calls-from (header .steps) file (value-place (header .objects))) outcomes w
+      → fault ≡ end-from (header .steps) file (value-place (header .objects)) 0
+      → FileRun stores file outcomes fault w
   file-run outcomes fault w ran ended =
       let sound = sound-at-ok file header (fit .reading) in
       let steps : Ran (opened loaded) (calls-of file) outcomes w = subst (λ (cs : List Call). Ran (opened loaded) cs outcomes w) (sym (calls-at-ok file header (fit .reading))) ran in

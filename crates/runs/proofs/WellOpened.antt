@@ -28,8 +28,9 @@ record Holds (values : List ℕ) (n : ℕ) (before after : StoreState) : Type 0 
 write-floor : (before after : StoreState) (object value : ℕ) → WriteChange before object value after → after .floor ≡ before .floor
 write-floor before after object value change =
     change .put .floor ∙ elim (cases-eq (before .room) 0) [
-      inl none ↦ change .room .tidied none .floor
-    | inr some ↦ ap (λ s. s .floor) (change .room .kept some) ]
+      | inl none ↦ change .room .tidied none .floor
+      | inr some ↦ ap (λ s. s .floor) (change .room .kept some)
+    ]
 
 holds-more : (values : List ℕ) (n : ℕ) (before between after : StoreState) → 64 ≤ before .floor → Holds values n before between → WriteChange between n (getD values n 0) after → Holds values (suc n) before after
 holds-more values n before between after ample so-far change =
@@ -38,14 +39,15 @@ holds-more values n before between after ample so-far change =
       floor = write-floor between after n (getD values n 0) change ∙ so-far .floor;
       count = ap length replaced ∙ length-set (between .values) n (getD values n 0) ∙ so-far .count;
       front = λ k below within. elim (cases-eq k n) [
-          inl e ↦
+        | inl e ↦
             ap (λ xs. getD xs k 0) replaced
             ∙ ap (λ j. getD (set (between .values) n (getD values n 0)) j 0) e
             ∙ getD-set-same (between .values) n (getD values n 0) 0 (omega (arith, so-far .count))
             ∙ ap (λ j. getD values j 0) (sym e)
         | inr apart ↦
             let before-n : k < n = omega arith in
-            ap (λ xs. getD xs k 0) replaced ∙ getD-set-other (between .values) n k (getD values n 0) 0 apart ∙ so-far .front k before-n within ];
+            ap (λ xs. getD xs k 0) replaced ∙ getD-set-other (between .values) n k (getD values n 0) 0 apart ∙ so-far .front k before-n within
+      ];
     }
 
 filled-holds : (values : List ℕ) (n : ℕ) (before after : StoreState) → 64 ≤ before .floor → FilledTo values n before after → Holds values n before after
@@ -80,11 +82,11 @@ well-opened stores values some few some′ few′ alike =
     let long : length (store-at stores 0 .values) ≡ length values = ap length zeroth in
     first-over (wrong-machine-count stores) (wrong-object-counts stores ∷ copies-differ stores ∷ []) (inside 1 8 (place-count stores) some few)
     ∙ first-over (wrong-object-counts stores) (copies-differ stores ∷ [])
-      (or-from _ _ (inside 1 256 (length (store-at stores 0 .values)) (omega arith) (omega arith))
-       (not-from-true _ (all-to-true (place-count stores) (same-counts stores) (λ s within. eq-eqb _ _ (ap length (alike s within ∙ sym zeroth))))))
+    (or-from _ _ (inside 1 256 (length (store-at stores 0 .values)) (omega arith) (omega arith))
+    (not-from-true _ (all-to-true (place-count stores) (same-counts stores) (λ s within. eq-eqb _ _ (ap length (alike s within ∙ sym zeroth))))))
     ∙ first-over (copies-differ stores) []
-      (not-from-true _ (all-to-true (place-count stores) (same-values stores) (λ s within.
-        all-to-true (length (store-at stores 0 .values)) (same-value stores s) (λ o below. eq-eqb _ _ (ap (λ xs. getD xs o 0) (alike s within ∙ sym zeroth))))))
+    (not-from-true _ (all-to-true (place-count stores) (same-values stores) (λ s within.
+    all-to-true (length (store-at stores 0 .values)) (same-value stores s) (λ o below. eq-eqb _ _ (ap (λ xs. getD xs o 0) (alike s within ∙ sym zeroth))))))
 
 pub loaded-one-copy : (stores : List StoreState) (values : List ℕ) (history : History) (w : World) → opening-number stores ≡ 0 → store-at stores 0 .values ≡ values → Run (opened stores) history w
     → OneCopy values history w

@@ -4,7 +4,6 @@ ghost use Prim.Native.Nat.{_<_};
 ghost use Rattle.stores.specs.Rows.{place-count};
 ghost use Rattle.model.specs.Opening.{all-to};
 ghost use Rattle.runs.specs.Fitting.{has-objects, fitting-header};
-
 use runfile::Header;
 use runfile::HeaderFault;
 use runfile::HeaderFaultKind;
@@ -17,10 +16,16 @@ pub fn read_fitting_header<R: Row>(file: &[u8], row: &R) -> Result<Header, Heade
 {
     let header = read_header(file)?;
     if row.count() != header.machines {
-        return Err(HeaderFault { kind: HeaderFaultKind::RowDiffers, byte: 0 });
+        return Err(HeaderFault {
+            kind: HeaderFaultKind::RowDiffers,
+            byte: 0,
+        });
     }
     if !all_have_objects(row, header.objects as usize) {
-        return Err(HeaderFault { kind: HeaderFaultKind::RowDiffers, byte: 4 });
+        return Err(HeaderFault {
+            kind: HeaderFaultKind::RowDiffers,
+            byte: 4,
+        });
     }
     Ok(header)
 }

@@ -6,7 +6,6 @@ ghost use lib.ListN.{length};
 ghost use Rattle.stores.specs.Rows.{has-place, place-count, store-at, with-store};
 ghost use Rattle.runfile.specs.HeaderFormat.{object-count, opening-values};
 ghost use Rattle.runs.specs.Loading.{FilledTo, Loaded};
-
 use runfile::opening_value;
 use stores::Row;
 use stores::write;

@@ -9,7 +9,6 @@ ghost use Rattle.std.specs.declared.result.Result.the-variants.{Ok};
 ghost use Rattle.register.specs.Meaning.{world};
 ghost use Rattle.runs.specs.Fitting.{fitting-header};
 ghost use Rattle.runs.specs.Running.{FileRun, Finishes, ended-with};
-
 use crate::fitting::read_fitting_header;
 use crate::loading::load;
 use crate::stepping::run_steps;
@@ -46,7 +45,12 @@ pub fn run<R: Row>(heap: Global, file: &[u8], row: R) -> Result<FinishedRun<R>, 
 }
 
 // The memory for the outcomes is had before anything is loaded: no step is shorter than five bytes.
-fn run_fitting<R: Row>(heap: Global, file: &[u8], header: Header, row: R) -> Result<FinishedRun<R>, Refused<R>>
+fn run_fitting<R: Row>(
+    heap: Global,
+    file: &[u8],
+    header: Header,
+    row: R,
+) -> Result<FinishedRun<R>, Refused<R>>
     requires { ⌜ fitting-header (R·Row .stores row) (now file) ≡ Ok header ⌝ }
     ensures finished { λ r. ⌜ made r (λ f. FileRun (R·Row .stores row) (now (file .entry)) (vec-items (f .outcomes)) (f .fault) (world (R·Row .stores) (f .register))) ⌝ }
     ensures untouched { λ r. ⌜ refused r (λ back. back .value ≡ row) ⌝ }
@@ -57,7 +61,12 @@ fn run_fitting<R: Row>(heap: Global, file: &[u8], header: Header, row: R) -> Res
     }
 }
 
-fn run_reserved<R: Row>(file: &[u8], header: Header, row: R, outcomes: Vec<Outcome>) -> FinishedRun<R>
+fn run_reserved<R: Row>(
+    file: &[u8],
+    header: Header,
+    row: R,
+    outcomes: Vec<Outcome>,
+) -> FinishedRun<R>
     requires fits { ⌜ fitting-header (R·Row .stores row) (now file) ≡ Ok header ⌝ }
     requires empty { ⌜ vec-items outcomes ≡ [] ⌝ }
     requires reserved { ⌜ length (now file) ≤ 4 + 5 * vec-cap outcomes ⌝ }
@@ -68,7 +77,11 @@ fn run_reserved<R: Row>(file: &[u8], header: Header, row: R, outcomes: Vec<Outco
     let mut register = Register::open(row);
     let mut outcomes = outcomes;
     let ended = run_steps(&mut register, file, header, &mut outcomes);
-    FinishedRun { register, outcomes, fault: fault_of(ended) }
+    FinishedRun {
+        register,
+        outcomes,
+        fault: fault_of(ended),
+    }
 }
 
 fn fault_of(ended: Result<(), RunFault>) -> Option<RunFault>

@@ -12,7 +12,6 @@ ghost use Rattle.runfile.specs.FileFormat.{calls-from, end-from};
 ghost use Rattle.runfile.specs.HeaderFormat.{value-place};
 ghost use Rattle.runfile.specs.StepFormat.{call-of};
 ghost use Rattle.runs.specs.Running.{Ran, ended-with};
-
 use register::Outcome;
 use register::Register;
 use register::Values;

@@ -31,10 +31,11 @@ lies-second a b place past within =
 pub floors-join : (a b : List StoreState) → AmpleFloors a → AmpleFloors b → AmpleFloors (a ++ b)
 floors-join a b ample ample′ place within =
     elim (cases-lt place (length a)) [
-      inl here ↦ subst (λ (s : StoreState). 64 ≤ s .floor) (sym (getD-append-left a b no-store place here)) (ample place here)
-    | inr past ↦
-        let there : place - length a < length b = omega (arith, length-append a b) in
-        subst (λ (s : StoreState). 64 ≤ s .floor) (sym (getD-append-right a b (length a) place no-store refl past)) (ample′ (place - length a) there) ]
+      | inl here ↦ subst (λ (s : StoreState). 64 ≤ s .floor) (sym (getD-append-left a b no-store place here)) (ample place here)
+      | inr past ↦
+          let there : place - length a < length b = omega (arith, length-append a b) in
+          subst (λ (s : StoreState). 64 ≤ s .floor) (sym (getD-append-right a b (length a) place no-store refl past)) (ample′ (place - length a) there)
+    ]
 
 -- a change of one store of the first row is one of the joined row
 pub change-first : (a a′ b : List StoreState) (place : ℕ) → Lies a b place (First place) → a′ ≡ with-store a place (store-at a′ place)
@@ -43,12 +44,13 @@ change-first a a′ b place (same, joined, here, at) others =
     let written : a′ ≡ set a place (store-at a′ place) = others ∙ cond-true _ _ _ here in
     let within : place < length a = omega (arith, ltb-true _ _ here) in
     let long : length a′ ≡ length a = ap length written ∙ length-set a place _ in
-    let found : store-at (a′ ++ b) place ≡ store-at a′ place = getD-append-left a′ b no-store place (omega arith) in
-    (found,
-     ap (λ x. x ++ b) written
-     ∙ sym (set-append-left a b place (store-at a′ place) within)
-     ∙ ap (set (a ++ b) place) (sym found)
-     ∙ sym (cond-true _ _ _ joined))
+    let found : store-at (a′ ++ b) place ≡ store-at a′ place = getD-append-left a′ b no-store place (omega arith) in (
+      found,
+      ap (λ x. x ++ b) written
+          ∙ sym (set-append-left a b place (store-at a′ place) within)
+          ∙ ap (set (a ++ b) place) (sym found)
+          ∙ sym (cond-true _ _ _ joined),
+    )
 
 pub change-second : (a b b′ : List StoreState) (place p : ℕ) → Lies a b place (Second p) → b′ ≡ with-store b p (store-at b′ p)
     → (store-at (a ++ b′) place ≡ store-at b′ p) × (a ++ b′ ≡ with-store (a ++ b) place (store-at (a ++ b′) place))
@@ -56,12 +58,13 @@ change-second a b b′ place p (same, joined, here, at) others =
     let written : b′ ≡ set b p (store-at b′ p) = others ∙ cond-true _ _ _ here in
     let less : place - length a ≡ p = omega arith in
     let past : length a ≤ place = omega arith in
-    let found : store-at (a ++ b′) place ≡ store-at b′ p = getD-append-right a b′ (length a) place no-store refl past ∙ ap (store-at b′) less in
-    (found,
-     ap (λ x. a ++ x) (written ∙ ap (λ n. set b n (store-at b′ p)) (sym less))
-     ∙ sym (set-append-right a b (length a) place (store-at b′ p) refl past)
-     ∙ ap (set (a ++ b) place) (sym found)
-     ∙ sym (cond-true _ _ _ joined))
+    let found : store-at (a ++ b′) place ≡ store-at b′ p = getD-append-right a b′ (length a) place no-store refl past ∙ ap (store-at b′) less in (
+      found,
+      ap (λ x. a ++ x) (written ∙ ap (λ n. set b n (store-at b′ p)) (sym less))
+          ∙ sym (set-append-right a b (length a) place (store-at b′ p) refl past)
+          ∙ ap (set (a ++ b) place) (sym found)
+          ∙ sym (cond-true _ _ _ joined),
+    )
 
 -- what holds of two stores holds of the same stores found elsewhere
 pub moved : (P : StoreState → StoreState → Type 0) {x x′ y y′ : StoreState} → x ≡ x′ → y ≡ y′ → P x′ y′ → P x y

@@ -40,8 +40,9 @@ older-entry : (newer : Option ℕ) (at value object : ℕ) (base : List ℕ) →
 older-entry (Some x) at value object base within = refl
 older-entry None at value object base within =
     elim (eqb-tells at object) [
-      inl p ↦ ap (λ k. getD (set base at value) k 0) (sym (p .1)) ∙ getD-set-same base at value 0 (rw (p .1) within) ∙ ap (λ b. valueOr (cond b (Some value) None) (getD base object 0)) (sym (p .0))
-    | inr p ↦ getD-set-other base at object value 0 (λ e. p .1 (sym e)) ∙ ap (λ b. valueOr (cond b (Some value) None) (getD base object 0)) (sym (p .0)) ]
+      | inl p ↦ ap (λ k. getD (set base at value) k 0) (sym (p .1)) ∙ getD-set-same base at value 0 (rw (p .1) within) ∙ ap (λ b. valueOr (cond b (Some value) None) (getD base object 0)) (sym (p .0))
+      | inr p ↦ getD-set-other base at object value 0 (λ e. p .1 (sym e)) ∙ ap (λ b. valueOr (cond b (Some value) None) (getD base object 0)) (sym (p .0))
+    ]
 
 -- the newest entry for an object counts, else the base
 pub value-written : (es : List Entry) (base : List ℕ) (object : ℕ) → object < length base → getD (written es base) object 0 ≡ valueOr (newest es object) (getD base object 0)
@@ -75,11 +76,12 @@ pub value-at-written : (es : List Entry) (base : List ℕ) (object : ℕ) → ne
 value-at-written es base object =
     let same = length-written es base in
     elim (cases-lt object (length base)) [
-      inl within ↦
-        let below : ltb object (length base) ≡ true = lt-ltb _ _ within in
-        let below′ : ltb object (length (written es base)) ≡ true = lt-ltb _ _ (omega (arith, same)) in
-        cond-true _ _ _ below ∙ ap Some (sym (value-written es base object within)) ∙ sym (cond-true _ _ _ below′)
-    | inr past ↦
-        let above : ltb object (length base) ≡ false = le-ltb _ _ past in
-        let above′ : ltb object (length (written es base)) ≡ false = le-ltb _ _ (omega (arith, same)) in
-        cond-false _ _ _ above ∙ sym (cond-false _ _ _ above′) ]
+      | inl within ↦
+          let below : ltb object (length base) ≡ true = lt-ltb _ _ within in
+          let below′ : ltb object (length (written es base)) ≡ true = lt-ltb _ _ (omega (arith, same)) in
+          cond-true _ _ _ below ∙ ap Some (sym (value-written es base object within)) ∙ sym (cond-true _ _ _ below′)
+      | inr past ↦
+          let above : ltb object (length base) ≡ false = le-ltb _ _ past in
+          let above′ : ltb object (length (written es base)) ≡ false = le-ltb _ _ (omega (arith, same)) in
+          cond-false _ _ _ above ∙ sym (cond-false _ _ _ above′)
+    ]

@@ -41,15 +41,16 @@ pub with-twice : (a b c : List StoreState) (place : ℕ) → b ≡ with-store a 
     → c ≡ with-store a place (store-at c place)
 with-twice a b c place first second =
     elim (cases-bool (has-place a place)) [
-      inl here ↦
-        let there : has-place b place ≡ true = has-place-kept a b place first ∙ here in
-        second ∙ cond-true _ _ _ there
-        ∙ ap (λ xs. set xs place (store-at c place)) (first ∙ cond-true _ _ _ here)
-        ∙ set-set a place (store-at b place) (store-at c place)
-        ∙ sym (cond-true _ _ _ here)
-    | inr past ↦
-        let gone : has-place b place ≡ false = has-place-kept a b place first ∙ past in
-        second ∙ cond-false _ _ _ gone ∙ first ∙ cond-false _ _ _ past ∙ sym (cond-false _ _ _ past) ]
+      | inl here ↦
+          let there : has-place b place ≡ true = has-place-kept a b place first ∙ here in
+          second ∙ cond-true _ _ _ there
+          ∙ ap (λ xs. set xs place (store-at c place)) (first ∙ cond-true _ _ _ here)
+          ∙ set-set a place (store-at b place) (store-at c place)
+          ∙ sym (cond-true _ _ _ here)
+      | inr past ↦
+          let gone : has-place b place ≡ false = has-place-kept a b place first ∙ past in
+          second ∙ cond-false _ _ _ gone ∙ first ∙ cond-false _ _ _ past ∙ sym (cond-false _ _ _ past)
+    ]
 
 remaining-at : (stores : List StoreState) (place : ℕ) → has-place stores place ≡ true → valueOr (answer-at stores place (λ s. s .room)) 1 ≡ store-at stores place .room
 remaining-at stores place here = ap (λ b. valueOr (cond b (Some (store-at stores place .room)) None) 1) here
@@ -65,21 +66,23 @@ room-left stores place some here = record {
 put-replaces : (values : List ℕ) (room object value : ℕ) → (room ≡ 0 → ⊥) → values-after-put values room object value ≡ set values object value
 put-replaces values room object value some =
     elim (cases-lt object (length values)) [
-      inl within ↦ ap (λ b. cond (isOk (cond b (cond (eqb room 0) (Err NoRoom) (Ok tt)) (Err NoSuchObject))) (set values object value) values) (lt-ltb _ _ within)
-        ∙ ap (λ b. cond (isOk (cond b (Err NoRoom) (Ok tt))) (set values object value) values) (ne-eqb _ _ some)
-    | inr past ↦ ap (λ b. cond (isOk (cond b (cond (eqb room 0) (Err NoRoom) (Ok tt)) (Err NoSuchObject))) (set values object value) values) (le-ltb _ _ past)
-        ∙ sym (set-past values object value past) ]
+      | inl within ↦ ap (λ b. cond (isOk (cond b (cond (eqb room 0) (Err NoRoom) (Ok tt)) (Err NoSuchObject))) (set values object value) values) (lt-ltb _ _ within)
+          ∙ ap (λ b. cond (isOk (cond b (Err NoRoom) (Ok tt))) (set values object value) values) (ne-eqb _ _ some)
+      | inr past ↦ ap (λ b. cond (isOk (cond b (cond (eqb room 0) (Err NoRoom) (Ok tt)) (Err NoSuchObject))) (set values object value) values) (le-ltb _ _ past)
+          ∙ sym (set-past values object value past)
+    ]
 
 pub write-replaces : (before after : StoreState) (object value : ℕ) → 64 ≤ before .floor → WriteChange before object value after
     → after .values ≡ set (before .values) object value
 write-replaces before after object value ample change =
     elim (cases-eq (before .room) 0) [
-      inl none ↦
-        let tidied = change .room .tidied none in
-        change .put .values ∙ put-replaces _ _ object value (λ e. omega (arith, tidied .room)) ∙ ap (λ xs. set xs object value) (tidied .values)
-    | inr some ↦
-        let same = change .room .kept some in
-        change .put .values ∙ put-replaces _ _ object value (λ e. some (sym (ap (λ s. s .room) same) ∙ e)) ∙ ap (λ s. set (s .values) object value) same ]
+      | inl none ↦
+          let tidied = change .room .tidied none in
+          change .put .values ∙ put-replaces _ _ object value (λ e. omega (arith, tidied .room)) ∙ ap (λ xs. set xs object value) (tidied .values)
+      | inr some ↦
+          let same = change .room .kept some in
+          change .put .values ∙ put-replaces _ _ object value (λ e. some (sym (ap (λ s. s .room) same) ∙ e)) ∙ ap (λ s. set (s .values) object value) same
+    ]
 
 pub floor-at : (stores : List StoreState) (place : ℕ) → AmpleFloors stores → has-place stores place ≡ true → 64 ≤ store-at stores place .floor
 floor-at stores place ample here = ample place (omega (arith, ltb-true _ _ here))

@@ -8,7 +8,6 @@ ghost use Rattle.stores.specs.Meaning.{put-answer};
 ghost use Rattle.stores.specs.Rows.{PutChange, TidyChange, has-place, place-count, store-at, answer-at, with-store};
 ghost use Rattle.stores.specs.Sides.{Lies, joined};
 ghost use Rattle.stores.specs.declared.joins.Side.the-variants.{First, Second};
-
 use crate::rows::Row;
 use crate::traits::PutRefusal;
 
@@ -56,7 +55,13 @@ impl<A: Row, B: Row> Join<A, B> {
         self.first.put(place, object, value)
     }
 
-    fn put_second(&mut self, place: u8, p: u8, object: usize, value: u32) -> Option<Result<(), PutRefusal>>
+    fn put_second(
+        &mut self,
+        place: u8,
+        p: u8,
+        object: usize,
+        value: u32,
+    ) -> Option<Result<(), PutRefusal>>
         requires { ⌜ Lies (A·Row .stores (now self .first)) (B·Row .stores (now self .second)) place (Second p) ⌝ }
         ensures answer { λ r. ⌜ r ≡ answer-at (joined (A·Row .stores) (B·Row .stores) (now (self .entry))) place (λ s. put-answer (s .values) (s .room) object) ⌝ }
         ensures others { λ r. ⌜ joined (A·Row .stores) (B·Row .stores) (now (self .exit)) ≡ with-store (joined (A·Row .stores) (B·Row .stores) (now (self .entry))) place (store-at (joined (A·Row .stores) (B·Row .stores) (now (self .exit))) place) ⌝ }

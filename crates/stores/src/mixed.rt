@@ -2,7 +2,6 @@
 ghost use mathlib.Core.Path.{_≡_};
 ghost use Rattle.stores.specs.Making.{Made};
 ghost use Rattle.stores.specs.Mixed.{single-stores, pair-stores, four-stores, eight-stores, fresh-stores};
-
 use crate::joins::Join;
 use crate::journals::JournalStore;
 use crate::rows::One;
@@ -11,8 +10,11 @@ use crate::traits::MakeError;
 use std::alloc::Global;
 
 pub type Single = One<TableStore>;
+
 pub type Pair = Join<One<TableStore>, One<JournalStore>>;
+
 pub type Four = Join<Pair, Pair>;
+
 pub type Eight = Join<Four, Four>;
 
 pub fn single_row(heap: Global, objects: usize) -> Result<Single, MakeError>
@@ -27,7 +29,10 @@ pub fn pair_row(heap: Global, objects: usize) -> Result<Pair, MakeError>
 {
     let first = single_row(heap, objects)?;
     let store = JournalStore::zeros(heap, objects)?;
-    Ok(Join { first, second: One { store } })
+    Ok(Join {
+        first,
+        second: One { store },
+    })
 }
 
 fn four_row(heap: Global, objects: usize) -> Result<Four, MakeError>

@@ -6,7 +6,6 @@ ghost use lib.ListN.{length};
 ghost use Rattle.std.specs.declared.option.Option.the-variants.{None};
 ghost use Rattle.stores.specs.Meaning.{value-at, put-answer};
 ghost use Rattle.stores.specs.Rows.{StoreState, AmpleFloors, PutChange, TidyChange, place-count, has-place, store-at, answer-at, with-store};
-
 use crate::traits::PutRefusal;
 use crate::traits::Store;
 

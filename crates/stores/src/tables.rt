@@ -3,12 +3,11 @@ ghost use mathlib.Core.Path.{_≡_};
 ghost use lib.ListN.{replicate};
 ghost use Rattle.stores.specs.Making.{Made};
 ghost use Rattle.stores.specs.Tables.{table-values, table-room};
-
-use std::alloc::Global;
 use crate::traits::MakeError;
 use crate::traits::MakeErrorFromAlloc;
 use crate::traits::PutRefusal;
 use crate::traits::Store;
+use std::alloc::Global;
 
 #[derive(Drop)]
 pub struct TableStore {

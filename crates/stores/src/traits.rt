@@ -7,7 +7,6 @@ ghost use lib.ListN.{length};
 ghost use Rattle.std.specs.Results.{isOk};
 ghost use Rattle.stores.specs.declared.traits.MakeError.the-variants.{OutOfMemory};
 ghost use Rattle.stores.specs.Meaning.{value-at, put-answer, values-after-put};
-
 use std::alloc::AllocError;
 
 // Why a store refuses a write, the first reason first.

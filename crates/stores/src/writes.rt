@@ -3,7 +3,6 @@ ghost use mathlib.Core.Path.{_≡_};
 ghost use mathlib.Core.Bool.{true};
 ghost use lib.ListN.{set};
 ghost use Rattle.stores.specs.Rows.{RoomChange, WriteChange, has-place, store-at, with-store};
-
 use crate::rows::Row;
 
 // Writes a value into the store at a place; a place that the row has not is left alone.

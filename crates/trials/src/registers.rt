@@ -40,9 +40,21 @@ fn answer(r: Result<(), Refusal>) -> u8 {
 #[test]
 fn rows_that_are_not_fit(rt: LibcRuntime) -> Result<(), Fail> {
     let heap = rt.alloc();
-    refuses(Join { first: eight_row(heap, 2)?, second: single_row(heap, 2)? }, 20)?;
+    refuses(
+        Join {
+            first: eight_row(heap, 2)?,
+            second: single_row(heap, 2)?,
+        },
+        20,
+    )?;
     refuses(single_row(heap, 0)?, 21)?;
-    refuses(Join { first: pair_row(heap, 2)?, second: single_row(heap, 3)? }, 21)?;
+    refuses(
+        Join {
+            first: pair_row(heap, 2)?,
+            second: single_row(heap, 3)?,
+        },
+        21,
+    )?;
     let mut row = pair_row(heap, 2)?;
     check(row.put(1, 1, 8) == Some(Ok(())))?;
     refuses(row, 22)

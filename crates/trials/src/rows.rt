@@ -24,7 +24,11 @@ impl Row for Bare as BareRow {
     ghost stores = { λ r. bare-row (r .count) };
 
     fn count(&self) -> u8 {
-        if self.count > 255 { 255 } else { self.count as u8 }
+        if self.count > 255 {
+            255
+        } else {
+            self.count as u8
+        }
     }
 
     fn object_count(&self, place: u8) -> Option<usize> {
@@ -40,7 +44,11 @@ impl Row for Bare as BareRow {
     }
 
     fn put(&mut self, place: u8, _object: usize, _value: u32) -> Option<Result<(), PutRefusal>> {
-        if place < self.count() { Some(Err(PutRefusal::NoSuchObject)) } else { None }
+        if place < self.count() {
+            Some(Err(PutRefusal::NoSuchObject))
+        } else {
+            None
+        }
     }
 
     fn tidy(&mut self, place: u8) -> bool {
@@ -63,11 +71,41 @@ fn has_places<R: Row + Drop>(row: R, count: u8) -> Result<(), Fail> {
 
 #[test]
 fn a_long_row_says_255() -> Result<(), Fail> {
-    has_places(Join { first: Bare { count: 100 }, second: Bare { count: 154 } }, 254)?;
-    has_places(Join { first: Bare { count: 100 }, second: Bare { count: 155 } }, 255)?;
-    has_places(Join { first: Bare { count: 200 }, second: Bare { count: 56 } }, 255)?;
-    has_places(Join { first: Bare { count: 300 }, second: Bare { count: 1 } }, 255)?;
-    has_places(Join { first: Bare { count: 1 }, second: Bare { count: 300 } }, 255)
+    has_places(
+        Join {
+            first: Bare { count: 100 },
+            second: Bare { count: 154 },
+        },
+        254,
+    )?;
+    has_places(
+        Join {
+            first: Bare { count: 100 },
+            second: Bare { count: 155 },
+        },
+        255,
+    )?;
+    has_places(
+        Join {
+            first: Bare { count: 200 },
+            second: Bare { count: 56 },
+        },
+        255,
+    )?;
+    has_places(
+        Join {
+            first: Bare { count: 300 },
+            second: Bare { count: 1 },
+        },
+        255,
+    )?;
+    has_places(
+        Join {
+            first: Bare { count: 1 },
+            second: Bare { count: 300 },
+        },
+        255,
+    )
 }
 
 #[test]

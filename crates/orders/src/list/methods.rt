@@ -7,7 +7,6 @@ ghost use Rattle.std.specs.declared.option.Option.the-variants.{Some, None};
 ghost use Rattle.std.specs.Results.{Cases};
 ghost use Rattle.orders.specs.Ascending.{ascending, ascends-from};
 ghost use Rattle.orders.specs.Lists.{all-below, list-fault, objects-of};
-
 use crate::faults::ListFault;
 use crate::list::ObjectList;
 
@@ -25,7 +24,10 @@ impl ObjectList {
         if !is_ascending(list) {
             return Err(ListFault::Order);
         }
-        Ok(ObjectList { objects: padded(list), count: list.len() })
+        Ok(ObjectList {
+            objects: padded(list),
+            count: list.len(),
+        })
     }
 
     // The objects in their order.

@@ -5,7 +5,6 @@ ghost use lib.ListN.{take};
 ghost use Rattle.register.specs.Outcomes.{outcome-number, outcome-values, values-list};
 ghost use Rattle.register.specs.Refusals.{answer-number};
 ghost use mathlib.Core.List.{[]};
-
 use crate::outcomes::Outcome;
 use crate::outcomes::Values;
 use crate::refusals::Refusal;
@@ -15,7 +14,10 @@ impl Values {
     pub fn front(buffer: [u32; 8], count: usize) -> Values
         ensures { λ r. ⌜ values-list r ≡ take (min count 8) buffer ⌝ }
     {
-        Values { values: buffer, count: count.min(8) }
+        Values {
+            values: buffer,
+            count: count.min(8),
+        }
     }
 
     pub fn as_slice(&self) -> &[u32]

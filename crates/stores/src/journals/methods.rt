@@ -9,7 +9,6 @@ ghost use Rattle.stores.specs.Entries.{newest-or-base};
 ghost use Rattle.stores.specs.Journals.{journal-values, journal-room};
 ghost use Rattle.stores.specs.Making.{Made};
 ghost use Rattle.stores.specs.Meaning.{value-at, put-answer, values-after-put};
-
 use crate::entries::append;
 use crate::entries::forget;
 use crate::entries::journal_count;

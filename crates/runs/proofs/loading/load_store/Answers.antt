@@ -18,12 +18,13 @@ loop-object-again g c =
     let before = g .R·Row .stores (c .args .row .now) in
     let now = g .R·Row .stores (c .loop-object .row) in
     let next = g .R·Row .stores (c .write .last .row) in
-    let machine = c .args .machine in
-    (with-twice before now next machine (c .loop-object .inv .0) (c .write .ensures .others),
-     filled-more (opening-values (c .args .file .now)) (c .loop-object .object) (store-at before machine) (store-at now machine) (store-at next machine) (c .opening-value .result)
-     (c .loop-object .inv .1)
-     (c .opening-value .ensures ∙ sym (getD-opening-values (c .args .file .now) (c .loop-object .object) (omega arith)))
-     (c .write .ensures .change (has-place-kept before now machine (c .loop-object .inv .0) ∙ c .pre .1)))
+    let machine = c .args .machine in (
+      with-twice before now next machine (c .loop-object .inv .0) (c .write .ensures .others),
+      filled-more (opening-values (c .args .file .now)) (c .loop-object .object) (store-at before machine) (store-at now machine) (store-at next machine) (c .opening-value .result)
+          (c .loop-object .inv .1)
+          (c .opening-value .ensures ∙ sym (getD-opening-values (c .args .file .now) (c .loop-object .object) (omega arith)))
+          (c .write .ensures .change (has-place-kept before now machine (c .loop-object .inv .0) ∙ c .pre .1)),
+    )
 
 pub returns : need.returns
 returns g c =

@@ -15,10 +15,11 @@ use Rattle.runs.proofs.stepping.run_steps.Needs as need
 pub loop-step-holds : need.loop-step-holds
 loop-step-holds g c =
     let w = world (g .R·Row .stores) (c .args .register .now) in
-    let start = value-place (c .args .header .objects) in
-    (subst (λ (os : List Outcome). Midway (c .args .header .steps) (c .args .file .now) start w 0 start os w) (sym (c .pre .empty))
-       (midway-start (c .args .header .steps) (c .args .file .now) start w (c .pre .inside)),
-     refl)
+    let start = value-place (c .args .header .objects) in (
+      subst (λ (os : List Outcome). Midway (c .args .header .steps) (c .args .file .now) start w 0 start os w) (sym (c .pre .empty))
+          (midway-start (c .args .header .steps) (c .args .file .now) start w (c .pre .inside)),
+      refl,
+    )
 
 pub push-reserved-requires : need.push-reserved-requires
 push-reserved-requires g c κs =
@@ -31,11 +32,12 @@ loop-step-again g c =
     let v = world (g .R·Row .stores) (c .loop-step .register) in
     let u = world (g .R·Row .stores) (c .perform .last .register) in
     let start = value-place (c .args .header .objects) in
-    let read = c .in-Continue-call .ensures tt in
-    (subst (λ (os : List Outcome). Midway (c .args .header .steps) (c .args .file .now) start w (c .loop-step .step + 1) (c .in-Continue-call .next) os u) (sym (c .push-reserved .ensures .items))
-       (midway-more (c .args .header .steps) (c .args .file .now) start w (c .loop-step .step) (c .loop-step .place) (vec-items (c .loop-step .outcomes)) v u (call-of (c .in-Continue-call .call)) (c .in-Continue-call .next) (c .perform .result)
-         (c .loop-step .inv .0) (c .loop-step-test .taken) (read .reading) (read .within) (c .perform .ensures)),
-     c .push-reserved .ensures .capacity ∙ c .loop-step .inv .1)
+    let read = c .in-Continue-call .ensures tt in (
+      subst (λ (os : List Outcome). Midway (c .args .header .steps) (c .args .file .now) start w (c .loop-step .step + 1) (c .in-Continue-call .next) os u) (sym (c .push-reserved .ensures .items))
+          (midway-more (c .args .header .steps) (c .args .file .now) start w (c .loop-step .step) (c .loop-step .place) (vec-items (c .loop-step .outcomes)) v u (call-of (c .in-Continue-call .call)) (c .in-Continue-call .next) (c .perform .result)
+          (c .loop-step .inv .0) (c .loop-step-test .taken) (read .reading) (read .within) (c .perform .ensures)),
+      c .push-reserved .ensures .capacity ∙ c .loop-step .inv .1,
+    )
 
 pub returns-in-Break-call : need.returns-in-Break-call
 returns-in-Break-call g c =
@@ -48,7 +50,7 @@ returns-in-Break-call g c =
     let read = c .in-Break-call .ensures tt in
     rw (p .1, p .2) (record {
       steps = midway-last n file start w (c .loop-step .step) (c .loop-step .place) (vec-items (c .loop-step .outcomes)) v (c .loop-step .inv .0)
-        (calls-broken n (c .loop-step .step) file (c .loop-step .place) _ _ (c .loop-step-test .taken) (read .reading));
+          (calls-broken n (c .loop-step .step) file (c .loop-step .place) _ _ (c .loop-step-test .taken) (read .reading));
       end = sym (c .loop-step .inv .0 .end ∙ end-refused n (c .loop-step .step) file (c .loop-step .place) (c .loop-step .step) _ (c .loop-step-test .taken) (read .reading) (read .numbered));
     })
 
@@ -61,6 +63,6 @@ returns g c =
     let file = c .args .file .now in
     record {
       steps = midway-last n file start w (c .loop-step .step) (c .loop-step .place) (vec-items (c .loop-step .outcomes)) v (c .loop-step .inv .0)
-        (calls-done n (c .loop-step .step) file (c .loop-step .place) (c .loop-step-test .left));
+          (calls-done n (c .loop-step .step) file (c .loop-step .place) (c .loop-step-test .left));
       end = sym (c .loop-step .inv .0 .end ∙ end-done n (c .loop-step .step) file (c .loop-step .place) (c .loop-step .step) (c .loop-step-test .left));
     }

@@ -10,11 +10,11 @@ returns g c =
     let after = g .R·Row .stores (c .put .last .self) in
     let place = c .args .place in
     let change : WriteChange (store-at before place) (c .args .object) (c .args .value) (store-at after place) =
-        record {
-          ready = store-at ready place;
-          room = c .make-room .ensures .change;
-          put = c .put .ensures .change (has-place-kept before ready place (c .make-room .ensures .others) ∙ c .pre);
-        } in
+    record {
+      ready = store-at ready place;
+      room = c .make-room .ensures .change;
+      put = c .put .ensures .change (has-place-kept before ready place (c .make-room .ensures .others) ∙ c .pre);
+    } in
     record {
       others = with-twice before ready after place (c .make-room .ensures .others) (c .put .ensures .others);
       change = change;

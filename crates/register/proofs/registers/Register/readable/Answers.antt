@@ -12,8 +12,8 @@ returns-in-Break-running-machine g c =
     let p = err-from-errBy (c .from-residual .result) (c .from-residual .ensures .1) in
     rw (p .1, p .2) (record {
       number = refusal-stands (c .in-Break-running-machine .field-0 .0)
-        (not-opened w ∷ no-such-machine w (c .args .machine) ∷ is-down w (c .args .machine) ∷ [])
-        (wrong-length (c .args .list .now) ∷ no-such-object w (c .args .list .now) ∷ out-of-order (c .args .list .now) ∷ short-buffer (c .args .list .now) (c .args .buffer) ∷ [])
-        (c .in-Break-running-machine .ensures tt);
+          (not-opened w ∷ no-such-machine w (c .args .machine) ∷ is-down w (c .args .machine) ∷ [])
+          (wrong-length (c .args .list .now) ∷ no-such-object w (c .args .list .now) ∷ out-of-order (c .args .list .now) ∷ short-buffer (c .args .list .now) (c .args .buffer) ∷ [])
+          (c .in-Break-running-machine .ensures tt);
       fits = tt;
     })

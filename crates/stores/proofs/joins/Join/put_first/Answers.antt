@@ -6,7 +6,7 @@ use Rattle.stores.proofs.joins.Join.put_first.Needs as need
 pub returns : need.returns
 returns g c =
     let changed =
-        change-first (g .A·Row .stores (c .args .self .now .first)) (g .A·Row .stores (c .put .last .self)) (g .B·Row .stores (c .args .self .now .second)) (c .args .place) (c .pre) (c .put .ensures .others) in
+    change-first (g .A·Row .stores (c .args .self .now .first)) (g .A·Row .stores (c .put .last .self)) (g .B·Row .stores (c .args .self .now .second)) (c .args .place) (c .pre) (c .put .ensures .others) in
     record {
       answer = search needs;
       others = changed .1;
