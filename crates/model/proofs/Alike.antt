@@ -1,28 +1,25 @@
 -- A well opened register starts with the same copy at every machine. Assumes nothing.
-use mathlib.Core.Path.{_≡_, refl, subst}
-use mathlib.Core.Bool.{Bool, true, false}
+use mathlib.Core.Path.{_≡_, subst}
+use mathlib.Core.Bool.{true}
 use mathlib.Core.List.{List, [], _∷_}
-use Prim.Native.Nat.{ℕ, _<_}
+use Prim.Native.Nat.{ℕ, _<_, _≤_}
 use native.Mathlib.Omega.{arith}
 use lib.ListN.{length}
 use Rattle.std.proofs.shelf.Lists.{ext-getD}
-use Rattle.std.proofs.shelf.Tests.{eqb-true, or-parts, not-false}
-use Rattle.std.proofs.shelf.Ways.{decides-below-and}
+use Rattle.std.proofs.shelf.Tests.{eqb-true, or-parts, not-false, ltb-false}
 use Rattle.stores.specs.Rows.{StoreState, place-count, store-at}
-use Rattle.model.specs.Checks.{first, Check}
-use Rattle.model.specs.Opening.{all-to, same-counts, same-value, same-values, wrong-machine-count, wrong-object-counts, copies-differ, opening-number}
-
-pub all-to-each : (n : ℕ) (test : ℕ → Bool) → all-to n test ≡ true → (k : ℕ) → k < n → test k ≡ true
-all-to-each n test = decides-below-and test (λ k. test k ≡ true) (λ m. all-to m test) (λ k. ((λ e. e), (λ e. e))) refl (λ _. refl) n .0
-
--- where no check fails, the first does not, if its number is not 0
-pub first-passes : (check : Check) (rest : List Check) → (check .0 ≡ 0 → ⊥) → first (check ∷ rest) ≡ 0 → (check .1 ≡ false) × (first rest ≡ 0)
-first-passes (number, true) rest other h = absurd (other h)
-first-passes (number, false) rest other h = (refl, h)
+use Rattle.model.specs.Checks.{first, all-to}
+use Rattle.model.specs.Opening.{same-counts, same-value, same-values, wrong-machine-count, wrong-object-counts, copies-differ, opening-number}
+use Rattle.model.proofs.Counts.{first-passes, all-to-each}
 
 module _ (stores : List StoreState) (well : opening-number stores ≡ 0) where
   after-machines : first (wrong-object-counts stores ∷ copies-differ stores ∷ []) ≡ 0
   after-machines = first-passes (wrong-machine-count stores) (wrong-object-counts stores ∷ copies-differ stores ∷ []) (λ e. omega arith) well .1
+
+  pub some-machine : 0 < place-count stores
+  some-machine =
+      let low : 1 ≤ place-count stores = ltb-false (place-count stores) 1 (or-parts _ _ (first-passes (wrong-machine-count stores) (wrong-object-counts stores ∷ copies-differ stores ∷ []) (λ e. omega arith) well .0) .0) in
+      omega arith
 
   counts-agree : all-to (place-count stores) (same-counts stores) ≡ true
   counts-agree = not-false _ (or-parts _ _ (first-passes (wrong-object-counts stores) (copies-differ stores ∷ []) (λ e. omega arith) after-machines .0) .1)

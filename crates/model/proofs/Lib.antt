@@ -1,3 +1,15 @@
+pub mod Agreeing
 pub mod Alike
+pub mod Changes
+pub mod Counts
+pub mod Courses
+pub mod DocketSteps
+pub mod Final
+pub mod Known
 pub mod Law
+pub mod Orderly
+pub mod Passed
+pub mod Rooms
 pub mod Runs
+pub mod Sound
+pub mod Values

@@ -1,6 +1,11 @@
 pub mod Calls
 pub mod Checks
-pub mod Opening
+pub mod Docket
+pub mod Histories
 pub mod OneCopy
+pub mod Opening
+pub mod Orders
+pub mod Questions
+pub mod Statuses
 pub mod Steps
 pub mod World

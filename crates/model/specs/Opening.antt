@@ -1,17 +1,13 @@
 -- Opening a register over a row of stores. Assumes nothing.
 use mathlib.Core.List.{List, [], _∷_}
 use mathlib.Core.Bool.{Bool, true, not, _&&_, _||_}
-use Prim.Native.Nat.{ℕ, zero, suc}
+use Prim.Native.Nat.{ℕ}
 use lib.Dec.{eqb, ltb}
 use lib.ListN.{length, getD, replicate}
 use Rattle.stores.specs.Rows.{StoreState, place-count, store-at}
-use Rattle.model.specs.Checks.{Check, first}
+use Rattle.model.specs.Checks.{Check, first, all-to}
+use Rattle.model.specs.Docket.{blank}
 use Rattle.model.specs.World.{World}
-
--- the test passes at every number below n
-abbrev pub all-to : ℕ → (ℕ → Bool) → Bool
-all-to zero test = true
-all-to (suc n) test = test n && all-to n test
 
 abbrev pub outside : ℕ → ℕ → ℕ → Bool
 outside low high n = ltb n low || ltb high n
@@ -40,6 +36,6 @@ copies-differ stores = (22, not (all-to (place-count stores) (same-values stores
 abbrev pub opening-number : List StoreState → ℕ
 opening-number stores = first (wrong-machine-count stores ∷ wrong-object-counts stores ∷ copies-differ stores ∷ [])
 
--- opening always gives a register, with all machines up
+-- opening always gives a register, with all machines up and all transactions absent
 abbrev pub opened : List StoreState → World
-opened stores = record { opening = opening-number stores; up = replicate 8 true; stores = stores }
+opened stores = record { opening = opening-number stores; docket = λ _. blank; up = replicate 8 true; stores = stores }

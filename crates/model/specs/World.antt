@@ -4,10 +4,12 @@ use mathlib.Core.Bool.{Bool, false}
 use Prim.Native.Nat.{ℕ}
 use lib.ListN.{length, getD}
 use Rattle.stores.specs.Rows.{StoreState, place-count, store-at}
+use Rattle.model.specs.Docket.{Docket}
 
 -- opening is 0, or the number that the opening was refused with; up has a flag for each machine
 pub record World : Type 0 where
   pub opening : ℕ
+  pub docket : Docket
   pub up : List Bool
   pub stores : List StoreState
 
@@ -17,6 +19,9 @@ machines w = place-count (w .stores)
 
 abbrev pub copy : World → ℕ → List ℕ
 copy w s = store-at (w .stores) s .values
+
+abbrev pub room : World → ℕ → ℕ
+room w s = store-at (w .stores) s .room
 
 abbrev pub objects : World → ℕ
 objects w = length (copy w 0)

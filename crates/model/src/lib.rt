@@ -2,7 +2,13 @@
 // and the law that holds of every run. There is almost no code here.
 ghost use Rattle.model.specs.OneCopy.{OneCopyLaw};
 
-// Carries the proof that no order of calls, restarts and refusals makes two machines answer differently.
+pub mod statuses;
+
+pub use statuses::Standing;
+pub use statuses::Status;
+
+// Carries the proof of the one-copy law: no order of calls, restarts and refusals breaks it.
 pub fn one_copy_is_kept()
     ensures { λ _. ⌜ OneCopyLaw ⌝ }
-{}
+{
+}

@@ -1,2 +1,6 @@
 pub mod Ascending
 pub mod Lists
+pub mod Bytes
+pub mod Rulebooks
+pub mod Assignments
+pub mod Transfers

@@ -1,6 +1,17 @@
-// Object lists: which objects a read or a change is about.
+// Object lists and orders: which objects a change is about, and what it makes of their values.
+pub mod assignment;
+mod bytes;
+mod clauses;
 pub mod faults;
 pub mod list;
+mod movement;
+pub mod rulebook;
+pub mod transfer;
 
+pub use assignment::Assignment;
+pub use assignment::AssignmentRulebook;
 pub use faults::ListFault;
 pub use list::ObjectList;
+pub use rulebook::Rulebook;
+pub use transfer::Transfer;
+pub use transfer::TransferRulebook;

@@ -5,7 +5,7 @@ use Prim.Native.Nat.{ℕ, _+_, _<_, _≤_}
 use native.Mathlib.Omega.{arith}
 use lib.ListN.{length, take, drop, set, getD}
 use Rattle.std.proofs.shelf.Lists.{set-at, drop-more, take-all, length-map, length-take-le, map-more}
-use Rattle.model.specs.Steps.{picked}
+use Rattle.model.specs.Orders.{picked}
 
 pub copied-more : (values list before now : List ℕ) (i value : ℕ)
     → i < length list → length list ≤ length before → now ≡ picked values (take i list) ++ drop i before → value ≡ getD values (getD list i 0) 0

@@ -14,7 +14,7 @@ use Rattle.std.specs.Options.{valueOr}
 use Rattle.std.specs.declared.option.Option.the-variants.{Some, None}
 use Rattle.stores.specs.Meaning.{value-at}
 use Rattle.stores.specs.Rows.{StoreState, place-count, has-place, store-at}
-use Rattle.model.specs.Opening.{all-to}
+use Rattle.model.specs.Checks.{all-to}
 
 pub passes-more : (test : ℕ → Bool) (k : ℕ) → all-to k test ≡ true → test k ≡ true → all-to (k + 1) test ≡ true
 passes-more test k so-far here = ap (λ n. all-to n test) (add-one k) ∙ cc

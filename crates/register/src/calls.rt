@@ -7,10 +7,11 @@ ghost use lib.ListN.{length, drop, getD};
 ghost use Rattle.std.specs.Results.{isOk};
 ghost use Rattle.std.specs.Vec.{made};
 ghost use Rattle.model.specs.Calls.{down as call-down, up as call-up, tidy as call-tidy, read as call-read};
-ghost use Rattle.model.specs.Checks.{value-answer};
-ghost use Rattle.model.specs.Steps.{Step, picked};
+ghost use Rattle.model.specs.Questions.{value-answer};
+ghost use Rattle.model.specs.Steps.{Step};
+ghost use Rattle.model.specs.Orders.{picked};
 ghost use Rattle.model.specs.World.{copy};
-ghost use Rattle.register.specs.Meaning.{world, called};
+ghost use Rattle.register.specs.Meaning.{world, called, no-orders};
 ghost use Rattle.register.specs.Refusals.{answer-number};
 use crate::opening::value_at;
 use crate::reading::copy_values;
@@ -21,7 +22,7 @@ use stores::Row;
 impl<R: Row> Register<R> {
     // The machine goes down.
     pub fn down(&mut self, machine: u8) -> Result<(), Refusal>
-        ensures { λ r. ⌜ Step (world (R·Row .stores) (now (self .entry))) (called (call-down machine) r []) (world (R·Row .stores) (now (self .exit))) ⌝ }
+        ensures { λ r. ⌜ Step no-orders (world (R·Row .stores) (now (self .entry))) (called (call-down machine) r []) (world (R·Row .stores) (now (self .exit))) ⌝ }
     {
         self.known_machine(machine)?;
         if !self.is_up(machine) {
@@ -33,19 +34,19 @@ impl<R: Row> Register<R> {
 
     // The machine comes up again.
     pub fn up(&mut self, machine: u8) -> Result<(), Refusal>
-        ensures { λ r. ⌜ Step (world (R·Row .stores) (now (self .entry))) (called (call-up machine) r []) (world (R·Row .stores) (now (self .exit))) ⌝ }
+        ensures { λ r. ⌜ Step no-orders (world (R·Row .stores) (now (self .entry))) (called (call-up machine) r []) (world (R·Row .stores) (now (self .exit))) ⌝ }
     {
         self.known_machine(machine)?;
         if self.is_up(machine) {
             return Err(Refusal::AlreadyUp);
         }
-        self.set_up(machine, true);
+        self.raise(machine);
         Ok(())
     }
 
     // The machine's store makes room.
     pub fn tidy(&mut self, machine: u8) -> Result<(), Refusal>
-        ensures { λ r. ⌜ Step (world (R·Row .stores) (now (self .entry))) (called (call-tidy machine) r []) (world (R·Row .stores) (now (self .exit))) ⌝ }
+        ensures { λ r. ⌜ Step no-orders (world (R·Row .stores) (now (self .entry))) (called (call-tidy machine) r []) (world (R·Row .stores) (now (self .exit))) ⌝ }
     {
         self.running_machine(machine)?;
         self.row.tidy(machine);
@@ -54,7 +55,7 @@ impl<R: Row> Register<R> {
 
     // The copy's values at the listed objects, at the front of the buffer.
     pub fn read(&self, machine: u8, list: &[u8], buffer: &mut [u32]) -> Result<(), Refusal>
-        ensures step { λ r. ⌜ Step (world (R·Row .stores) (now (self .entry))) (called (call-read machine (now (list .entry)) (length (now (buffer .entry)))) r (picked (copy (world (R·Row .stores) (now (self .entry))) machine) (now (list .entry)))) (world (R·Row .stores) (now (self .entry))) ⌝ }
+        ensures step { λ r. ⌜ Step no-orders (world (R·Row .stores) (now (self .entry))) (called (call-read machine (now (list .entry)) (length (now (buffer .entry)))) r (picked (copy (world (R·Row .stores) (now (self .entry))) machine) (now (list .entry)))) (world (R·Row .stores) (now (self .entry))) ⌝ }
         ensures buffer { λ r. ⌜ now (buffer .exit) ≡ cond (isOk r) (picked (copy (world (R·Row .stores) (now (self .entry))) machine) (now (list .entry)) ++ drop (length (now (list .entry))) (now (buffer .entry))) (now (buffer .entry)) ⌝ }
         ensures few { λ r. ⌜ made r (λ _. length (now (list .entry)) ≤ 8) ⌝ }
     {

@@ -9,9 +9,9 @@ ghost use Rattle.stores.specs.Rows.{place-count, store-at};
 ghost use Rattle.orders.specs.Lists.{objects-of};
 ghost use Rattle.model.specs.Calls.{read as call-read};
 ghost use Rattle.model.specs.Checks.{first, not-opened, no-such-machine, is-down, answer};
-ghost use Rattle.model.specs.Steps.{picked};
+ghost use Rattle.model.specs.Orders.{picked};
 ghost use Rattle.model.specs.World.{machines as machine-count, objects as object-total, is-up};
-ghost use Rattle.register.specs.Meaning.{world, with-up};
+ghost use Rattle.register.specs.Meaning.{world, with-up, raised-at, no-orders};
 ghost use Rattle.register.specs.Refusals.{answer-number};
 use crate::opening::value_at;
 use crate::refusals::Refusal;
@@ -55,6 +55,13 @@ impl<R: Row> Register<R> {
         set_flag(&mut self.up, machine, flag);
     }
 
+    // The machine is up again; what is pending there would be dropped.
+    pub(crate) fn raise(&mut self, machine: u8)
+        ensures { λ _. ⌜ world (R·Row .stores) (now (self .exit)) ≡ raised-at (world (R·Row .stores) (now (self .entry))) machine ⌝ }
+    {
+        self.set_up(machine, true);
+    }
+
     // The object count, asked of a machine that is there.
     pub(crate) fn object_count(&self, machine: u8) -> usize
         requires { ⌜ machine < machine-count (world (R·Row .stores) (now self)) ⌝ }
@@ -64,7 +71,7 @@ impl<R: Row> Register<R> {
     }
 
     pub(crate) fn readable(&self, machine: u8, list: &[u8], buffer: usize) -> Result<(), Refusal>
-        ensures number { λ r. ⌜ answer-number r ≡ answer (call-read machine (now (list .entry)) buffer) (world (R·Row .stores) (now (self .entry))) ⌝ }
+        ensures number { λ r. ⌜ answer-number r ≡ answer no-orders (call-read machine (now (list .entry)) buffer) (world (R·Row .stores) (now (self .entry))) ⌝ }
         ensures fits { λ r. ⌜ made r (λ _. (machine < machine-count (world (R·Row .stores) (now (self .entry)))) × (length (now (list .entry)) ≤ buffer) × (length (now (list .entry)) ≤ 8)) ⌝ }
     {
         self.running_machine(machine)?;

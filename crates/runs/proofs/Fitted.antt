@@ -10,8 +10,8 @@ use Rattle.std.proofs.shelf.Tests.{eqb-true, not-false}
 use Rattle.std.specs.declared.result.Result.{Result}
 use Rattle.std.specs.declared.result.Result.the-variants.{Ok, Err}
 use Rattle.stores.specs.Rows.{StoreState, place-count, store-at}
-use Rattle.model.specs.Opening.{all-to}
-use Rattle.model.proofs.Alike.{all-to-each}
+use Rattle.model.specs.Checks.{all-to}
+use Rattle.model.proofs.Counts.{all-to-each}
 use Rattle.runfile.specs.HeaderFormat.{header-of, fault}
 use Rattle.runfile.specs.declared.faults.HeaderFault.{HeaderFault}
 use Rattle.runfile.specs.declared.faults.HeaderFaultKind.the-variants.{RowDiffers}

@@ -5,7 +5,7 @@ use Prim.Native.Nat.{ℕ, _≤_, min}
 use native.Mathlib.Omega.{arith}
 use lib.ListN.{length, take, drop, getD}
 use Rattle.std.proofs.shelf.Lists.{take-at, length-map}
-use Rattle.model.specs.Steps.{picked}
+use Rattle.model.specs.Orders.{picked}
 
 pub front-read : (values list before after : List ℕ) → length list ≤ 8 → after ≡ picked values list ++ drop (length list) before → take (min (length list) 8) after ≡ picked values list
 front-read values list before after few filled =

@@ -7,10 +7,11 @@ use native.Mathlib.Omega.{arith}
 use lib.ListN.{length, length-append}
 use Rattle.std.proofs.shelf.Lists.{append-nil, reverse-append, length-push}
 use Rattle.model.specs.Calls.{Call}
-use Rattle.model.specs.OneCopy.{History, Run}
+use Rattle.model.specs.Histories.{History, Run}
 use Rattle.model.specs.Steps.{Event, Step}
 use Rattle.model.specs.World.{World}
 use Rattle.register.specs.declared.outcomes.Outcome.{Outcome}
+use Rattle.register.specs.Meaning.{no-orders}
 use Rattle.register.specs.Outcomes.{event-of}
 use Rattle.runfile.specs.FileFormat.{calls-from, end-from}
 use Rattle.runfile.specs.StepFormat.{found, step-at, broken, Within}
@@ -29,11 +30,11 @@ history-push : (calls : List Call) (outcomes : List Outcome) (call : Call) (outc
 history-push calls outcomes call outcome same =
     ap reverse (events-push calls outcomes call outcome same) ∙ reverse-append (events calls outcomes) (event-of call outcome ∷ [])
 
-ran-push : (w v u : World) (calls : List Call) (outcomes : List Outcome) (call : Call) (outcome : Outcome) → Ran w calls outcomes v → Step v (event-of call outcome) u
+ran-push : (w v u : World) (calls : List Call) (outcomes : List Outcome) (call : Call) (outcome : Outcome) → Ran w calls outcomes v → Step no-orders v (event-of call outcome) u
     → Ran w (calls ++ (call ∷ [])) (outcomes ++ (outcome ∷ [])) u
 ran-push w v u calls outcomes call outcome ran step = record {
   answered = length-push outcomes outcome ∙ ap (λ n. n + 1) (ran .answered) ∙ sym (length-push calls call);
-  run = subst (λ (h : History). Run w h u) (sym (history-push calls outcomes call outcome (ran .answered))) (v, ran .run, step);
+  run = subst (λ (h : History). Run no-orders w h u) (sym (history-push calls outcomes call outcome (ran .answered))) (v, ran .run, step);
 }
 
 -- i of n steps are made, and the next stands at the place
@@ -59,7 +60,7 @@ midway-start n file start w within = record {
     none = omega arith
 
 pub midway-more : (n : ℕ) (file : List ℕ) (start : ℕ) (w : World) (i place : ℕ) (outcomes : List Outcome) (v u : World) (call : Call) (next : ℕ) (outcome : Outcome)
-    → Midway n file start w i place outcomes v → i < n → found call next ≡ step-at file place → Within file place next → Step v (event-of call outcome) u
+    → Midway n file start w i place outcomes v → i < n → found call next ≡ step-at file place → Within file place next → Step no-orders v (event-of call outcome) u
     → Midway n file start w (i + 1) next (outcomes ++ (outcome ∷ [])) u
 midway-more n file start w i place outcomes v u call next outcome mid left reading within step = record {
   made = mid .made ++ (call ∷ []);

@@ -7,16 +7,19 @@ use Prim.Native.Nat.{ℕ, zero, suc, _<_, _≤_}
 use native.Mathlib.Omega.{arith}
 use lib.Dec.{eqb, ltb}
 use lib.ListN.{length, set, getD, length-set}
-use Rattle.std.proofs.shelf.Lists.{ext-getD, getD-set-same, getD-set-other}
-use Rattle.std.proofs.shelf.Tests.{cases-eq, cond-false, eq-eqb, le-ltb, or-from, not-from-true}
-use Rattle.std.proofs.shelf.Ways.{decides-below-and}
+use Rattle.std.proofs.shelf.Lists.{ext-getD, getD-set-same, getD-set-other, length-replicate}
+use Rattle.std.proofs.shelf.Tests.{cases-eq, cond-false, eq-eqb, le-ltb, or-from, not-from-true, false≢true}
 use Rattle.stores.specs.Rows.{StoreState, WriteChange, AmpleFloors, place-count, store-at}
 use Rattle.stores.proofs.Written.{write-replaces}
-use Rattle.model.specs.Checks.{Check, first}
-use Rattle.model.specs.OneCopy.{History, Run, OneCopy}
-use Rattle.model.specs.Opening.{all-to, outside, same-counts, same-value, same-values, wrong-machine-count, wrong-object-counts, copies-differ, opening-number, opened}
+use Rattle.model.specs.Histories.{History, Run}
+use Rattle.model.specs.OneCopy.{OneCopy}
+use Rattle.orders.specs.Rulebooks.{RulebookLaws}
+use Rattle.model.specs.Checks.{Check, first, all-to}
+use Rattle.model.specs.Opening.{outside, same-counts, same-value, same-values, wrong-machine-count, wrong-object-counts, copies-differ, opening-number, opened}
 use Rattle.model.specs.World.{World}
+use Rattle.model.proofs.Counts.{all-to-true}
 use Rattle.model.proofs.Law.{law}
+use Rattle.register.specs.Meaning.{no-orders}
 use Rattle.runs.specs.Loading.{FilledTo, Loaded}
 
 -- a store that is being filled has the first n values
@@ -66,9 +69,6 @@ loaded-values before after values ample loaded s within same =
     let holds = filled-holds values (length values) (store-at before s) (store-at after s) (ample s within) (loaded .each s within) in
     ext-getD 0 _ _ (holds .count ∙ same) (λ k below. holds .front k (omega (arith, holds .count)) (omega (arith, holds .count)))
 
-all-to-true : (n : ℕ) (test : ℕ → Bool) → ((k : ℕ) → k < n → test k ≡ true) → all-to n test ≡ true
-all-to-true n test = decides-below-and test (λ k. test k ≡ true) (λ m. all-to m test) (λ k. ((λ e. e), (λ e. e))) refl (λ _. refl) n .1
-
 first-over : (check : Check) (rest : List Check) → check .1 ≡ false → first (check ∷ rest) ≡ first rest
 first-over check rest passes = cond-false _ _ _ passes
 
@@ -88,7 +88,17 @@ well-opened stores values some few some′ few′ alike =
     (not-from-true _ (all-to-true (place-count stores) (same-values stores) (λ s within.
     all-to-true (length (store-at stores 0 .values)) (same-value stores s) (λ o below. eq-eqb _ _ (ap (λ xs. getD xs o 0) (alike s within ∙ sym zeroth))))))
 
-pub loaded-one-copy : (stores : List StoreState) (values : List ℕ) (history : History) (w : World) → opening-number stores ≡ 0 → store-at stores 0 .values ≡ values → Run (opened stores) history w
-    → OneCopy values history w
+-- a rulebook without orders is a rulebook
+no-orders-lawful : RulebookLaws (no-orders .lawful) (no-orders .mask) (no-orders .news)
+no-orders-lawful = record {
+  mask-has-each-position = λ order n. length-replicate n false;
+  lawful-order-writes = λ order n lawful. absurd (false≢true lawful);
+  as-many-news-as-olds = λ order olds. refl;
+  unwritten-keeps-its-value = λ order olds lawful p unwritten. refl;
+  news-fit-where-olds-fit = λ order olds lawful fit. fit;
+}
+
+pub loaded-one-copy : (stores : List StoreState) (values : List ℕ) (history : History) (w : World) → opening-number stores ≡ 0 → store-at stores 0 .values ≡ values → Run no-orders (opened stores) history w
+    → OneCopy no-orders values history w
 loaded-one-copy stores values history w well zeroth run =
-    subst (λ (vs : List ℕ). OneCopy vs history w) zeroth (law stores history w run .kept well)
+    subst (λ (vs : List ℕ). OneCopy no-orders vs history w) zeroth (law no-orders no-orders-lawful stores history w run .kept well)

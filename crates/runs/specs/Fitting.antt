@@ -8,7 +8,7 @@ use lib.ListN.{length}
 use Rattle.std.specs.declared.result.Result.{Result}
 use Rattle.std.specs.declared.result.Result.the-variants.{Ok, Err}
 use Rattle.stores.specs.Rows.{StoreState, place-count, store-at}
-use Rattle.model.specs.Opening.{all-to}
+use Rattle.model.specs.Checks.{all-to}
 use Rattle.runfile.specs.HeaderFormat.{header-of, fault}
 use Rattle.runfile.specs.declared.faults.HeaderFault.{HeaderFault}
 use Rattle.runfile.specs.declared.faults.HeaderFaultKind.the-variants.{RowDiffers}

@@ -9,11 +9,13 @@ use Rattle.std.specs.declared.result.Result.the-variants.{Ok, Err}
 use Prim.Native.Nat.{ℕ}
 use Rattle.stores.specs.Rows.{StoreState}
 use Rattle.model.specs.Calls.{Call}
-use Rattle.model.specs.OneCopy.{History, Run, OneCopy}
+use Rattle.model.specs.Histories.{History, Run}
+use Rattle.model.specs.OneCopy.{OneCopy}
 use Rattle.model.specs.Opening.{opened}
 use Rattle.model.specs.Steps.{Event}
 use Rattle.model.specs.World.{World}
 use Rattle.register.specs.declared.outcomes.Outcome.{Outcome}
+use Rattle.register.specs.Meaning.{no-orders}
 use Rattle.register.specs.Outcomes.{event-of}
 use Rattle.runfile.specs.FileFormat.{calls-of, end-of}
 use Rattle.runfile.specs.HeaderFormat.{opening-values}
@@ -37,7 +39,7 @@ history calls outcomes = reverse (events calls outcomes)
 -- every call was made in turn, and each has its outcome
 pub record Ran (w : World) (calls : List Call) (outcomes : List Outcome) (w′ : World) : Type 0 where
   pub answered : length outcomes ≡ length calls
-  pub run : Run w (history calls outcomes) w′
+  pub run : Run no-orders w (history calls outcomes) w′
 
 -- a file that the row fits is loaded, and its steps are run up to the first that is broken
 pub record FileRun (stores : List StoreState) (file : List ℕ) (outcomes : List Outcome) (fault : Option RunFault) (w : World) : Type 0 where
@@ -45,7 +47,7 @@ pub record FileRun (stores : List StoreState) (file : List ℕ) (outcomes : List
   pub loading : Loaded stores (opening-values file) loaded
   pub steps : Ran (opened loaded) (calls-of file) outcomes w
   pub ended : fault ≡ end-of file
-  pub one-copy : OneCopy (opening-values file) (history (calls-of file) outcomes) w
+  pub one-copy : OneCopy no-orders (opening-values file) (history (calls-of file) outcomes) w
 
 -- where the header is faulty or the row does not fit, nothing is loaded and no step is run
 abbrev pub FinishesAt : Result Header HeaderFault → List StoreState → List ℕ → List Outcome → Option RunFault → World → Type 0

@@ -2,7 +2,7 @@
 ghost use mathlib.Core.Path.{_≡_};
 ghost use Prim.Native.Nat.{_<_};
 ghost use Rattle.stores.specs.Rows.{place-count};
-ghost use Rattle.model.specs.Opening.{all-to};
+ghost use Rattle.model.specs.Checks.{all-to};
 ghost use Rattle.runs.specs.Fitting.{has-objects, fitting-header};
 use runfile::Header;
 use runfile::HeaderFault;

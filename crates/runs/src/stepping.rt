@@ -6,7 +6,7 @@ ghost use lib.ListN.{length};
 ghost use Rattle.std.specs.Of.Vec.{vec-items, vec-cap};
 ghost use Rattle.model.specs.Calls.{read as call-read};
 ghost use Rattle.model.specs.Steps.{Step as WorldStep};
-ghost use Rattle.register.specs.Meaning.{world};
+ghost use Rattle.register.specs.Meaning.{world, no-orders};
 ghost use Rattle.register.specs.Outcomes.{event-of};
 ghost use Rattle.runfile.specs.FileFormat.{calls-from, end-from};
 ghost use Rattle.runfile.specs.HeaderFormat.{value-place};
@@ -24,7 +24,7 @@ use stores::Row;
 
 // The call of one step. A read is lent a buffer of eight values.
 pub(crate) fn perform<R: Row>(register: &mut Register<R>, step: Step<'_>) -> Outcome
-    ensures { λ r. ⌜ WorldStep (world (R·Row .stores) (now (register .entry))) (event-of (call-of (step .entry)) r) (world (R·Row .stores) (now (register .exit))) ⌝ }
+    ensures { λ r. ⌜ WorldStep no-orders (world (R·Row .stores) (now (register .entry))) (event-of (call-of (step .entry)) r) (world (R·Row .stores) (now (register .exit))) ⌝ }
 {
     match step {
         Step::Down { machine } => Outcome::of(register.down(machine)),
@@ -35,7 +35,7 @@ pub(crate) fn perform<R: Row>(register: &mut Register<R>, step: Step<'_>) -> Out
 }
 
 fn read_out<R: Row>(register: &Register<R>, machine: u8, list: &[u8]) -> Outcome
-    ensures { λ r. ⌜ WorldStep (world (R·Row .stores) (now (register .entry))) (event-of (call-read machine (now (list .entry)) 8) r) (world (R·Row .stores) (now (register .entry))) ⌝ }
+    ensures { λ r. ⌜ WorldStep no-orders (world (R·Row .stores) (now (register .entry))) (event-of (call-read machine (now (list .entry)) 8) r) (world (R·Row .stores) (now (register .entry))) ⌝ }
 {
     let mut buffer = [0; 8];
     match register.read(machine, list, &mut buffer) {

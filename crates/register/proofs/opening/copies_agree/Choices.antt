@@ -1,6 +1,7 @@
 use mathlib.Core.Path.{_≡_}
 use mathlib.Core.Bool.{true}
-use Rattle.model.specs.Opening.{all-to, same-values}
+use Rattle.model.specs.Checks.{all-to}
+use Rattle.model.specs.Opening.{same-values}
 use Rattle.register.proofs.opening.copies_agree.Given as given
 
 abbrev pub Inv-loop-machine : given.InvT-loop-machine

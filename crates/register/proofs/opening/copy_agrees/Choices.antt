@@ -1,6 +1,7 @@
 use mathlib.Core.Path.{_≡_}
 use mathlib.Core.Bool.{true}
-use Rattle.model.specs.Opening.{all-to, same-value}
+use Rattle.model.specs.Checks.{all-to}
+use Rattle.model.specs.Opening.{same-value}
 use Rattle.register.proofs.opening.copy_agrees.Given as given
 
 abbrev pub Inv-loop-object : given.InvT-loop-object

@@ -1,6 +1,7 @@
 use mathlib.Core.Path.{_≡_}
 use mathlib.Core.Bool.{true}
-use Rattle.model.specs.Opening.{all-to, same-counts}
+use Rattle.model.specs.Checks.{all-to}
+use Rattle.model.specs.Opening.{same-counts}
 use Rattle.register.proofs.opening.counts_agree.Given as given
 
 abbrev pub Inv-loop-machine : given.InvT-loop-machine

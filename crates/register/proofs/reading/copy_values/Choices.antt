@@ -2,7 +2,7 @@ use mathlib.Core.Path.{_≡_}
 use mathlib.Core.List.{_++_}
 use lib.ListN.{length, take, drop}
 use Rattle.stores.specs.Rows.{store-at}
-use Rattle.model.specs.Steps.{picked}
+use Rattle.model.specs.Orders.{picked}
 use Rattle.register.proofs.reading.copy_values.Given as given
 
 -- the front is copied, the rest as it was

@@ -1,6 +1,6 @@
 use mathlib.Core.Path.{_≡_}
 use mathlib.Core.Bool.{true}
-use Rattle.model.specs.Opening.{all-to}
+use Rattle.model.specs.Checks.{all-to}
 use Rattle.runs.specs.Fitting.{has-objects}
 use Rattle.runs.proofs.fitting.all_have_objects.Given as given
 
