@@ -21,8 +21,9 @@ pub any-to-none : (n : ℕ) (test : ℕ → Bool) → any-to n test ≡ false �
 any-to-none zero test e k below = absurd (omega arith)
 any-to-none (suc n) test e k below =
     elim (cases-eq k n) [
-      inl same ↦ ap test same ∙ or-parts (test n) (any-to n test) e .0
-    | inr other ↦ let less : k < n = omega arith in any-to-none n test (or-parts (test n) (any-to n test) e .1) k less ]
+      | inl same ↦ ap test same ∙ or-parts (test n) (any-to n test) e .0
+      | inr other ↦ let less : k < n = omega arith in any-to-none n test (or-parts (test n) (any-to n test) e .1) k less
+    ]
 
 -- where no check fails, the first does not, if its number is not 0
 pub first-passes : (check : Check) (rest : List Check) → (check .0 ≡ 0 → ⊥) → first (check ∷ rest) ≡ 0 → (check .1 ≡ false) × (first rest ≡ 0)
@@ -48,16 +49,17 @@ pub sum-change : (n t : ℕ) (f g : ℕ → ℕ) → t < n → ((k : ℕ) → k 
 sum-change zero t f g below each = absurd (omega arith)
 sum-change (suc n) t f g below each =
     elim (cases-eq t n) [
-      inl same ↦
-        let rest : sum-to n f ≡ sum-to n g = sum-same n f g (λ k under. each k (λ e. omega arith)) in
-        let ft : f t ≡ f n = ap f same in
-        let gt : g t ≡ g n = ap g same in
-        omega arith
-    | inr other ↦
-        let less : t < n = omega arith in
-        let here : f n ≡ g n = each n (λ e. other (sym e)) in
-        let rest : sum-to n f + g t ≡ sum-to n g + f t = sum-change n t f g less each in
-        omega arith ]
+      | inl same ↦
+          let rest : sum-to n f ≡ sum-to n g = sum-same n f g (λ k under. each k (λ e. omega arith)) in
+          let ft : f t ≡ f n = ap f same in
+          let gt : g t ≡ g n = ap g same in
+          omega arith
+      | inr other ↦
+          let less : t < n = omega arith in
+          let here : f n ≡ g n = each n (λ e. other (sym e)) in
+          let rest : sum-to n f + g t ≡ sum-to n g + f t = sum-change n t f g less each in
+          omega arith
+    ]
 
 pub sum-zero : (n : ℕ) → sum-to n (λ _. 0) ≡ 0
 sum-zero zero = refl

@@ -80,13 +80,15 @@ module _ {m n : ℕ} (e : Entry) (good : Good m n e) where
     where
       unapplied : (k : ℕ) → e .status k ≢ Applied
       unapplied k applied = elim (course-of Undecided is) [
-          inl none ↦ let z : _≡_ {A = ℕ} 0 1 = cc (none k) in absurd (omega arith)
-        | inr p ↦ p .1 k applied ]
+        | inl none ↦ let z : _≡_ {A = ℕ} 0 1 = cc (none k) in absurd (omega arith)
+        | inr p ↦ p .1 k applied
+      ]
 
       none-applied : (k : ℕ) → at (e .status) s x k ≢ Applied
       none-applied k applied = elim (at-cases (e .status) s x k) [
-          inl here ↦ other (sym (here .1) ∙ applied)
-        | inr there ↦ unapplied k (sym (there .1) ∙ applied) ]
+        | inl here ↦ other (sym (here .1) ∙ applied)
+        | inr there ↦ unapplied k (sym (there .1) ∙ applied)
+      ]
 
   -- a status that is not none shows that the coordinator has promised
   promised-first : (s : ℕ) → e .standing ≡ Undecided → e .status s ≢ None → e .status (e .coordinator) ≡ Promised
@@ -98,13 +100,15 @@ module _ {m n : ℕ} (e : Entry) (good : Good m n e) where
     where
       before : (k : ℕ) → e .status k ≢ Applied
       before k applied = elim (course-of Undecided is) [
-          inl all ↦ let z : _≡_ {A = ℕ} 0 1 = cc (all k) in absurd (omega arith)
-        | inr p ↦ p .1 k applied ]
+        | inl all ↦ let z : _≡_ {A = ℕ} 0 1 = cc (all k) in absurd (omega arith)
+        | inr p ↦ p .1 k applied
+      ]
 
       unapplied : (k : ℕ) → at (e .status) (e .coordinator) Promised k ≢ Applied
       unapplied k applied = elim (at-cases (e .status) (e .coordinator) Promised k) [
-          inl here ↦ let z : _≡_ {A = ℕ} 0 1 = cc (here .1) in absurd (omega arith)
-        | inr there ↦ before k (sym (there .1) ∙ applied) ]
+        | inl here ↦ let z : _≡_ {A = ℕ} 0 1 = cc (here .1) in absurd (omega arith)
+        | inr there ↦ before k (sym (there .1) ∙ applied)
+      ]
 
   pub good-begin : (s : ℕ) → e .standing ≡ Undecided → s < m → s ≢ e .coordinator → e .status (e .coordinator) ≡ Promised → Good m n (moved e (e .standing) s Pending)
   good-begin s is within apart promised = vote s Pending is within apart promised (λ q. let z : _≡_ {A = ℕ} 0 1 = cc in omega arith)
@@ -130,13 +134,15 @@ module _ {m n : ℕ} (e : Entry) (good : Good m n e) where
     where
       before : (k : ℕ) → e .status k ≢ Applied
       before k applied = elim (course-of Undecided is) [
-          inl all ↦ let z : _≡_ {A = ℕ} 0 1 = cc (all k) in absurd (omega arith)
-        | inr p ↦ p .1 k applied ]
+        | inl all ↦ let z : _≡_ {A = ℕ} 0 1 = cc (all k) in absurd (omega arith)
+        | inr p ↦ p .1 k applied
+      ]
 
       unapplied : (k : ℕ) → at (e .status) (e .coordinator) Dropped k ≢ Applied
       unapplied k applied = elim (at-cases (e .status) (e .coordinator) Dropped k) [
-          inl here ↦ let z : _≡_ {A = ℕ} 0 1 = cc (here .1) in absurd (omega arith)
-        | inr there ↦ before k (sym (there .1) ∙ applied) ]
+        | inl here ↦ let z : _≡_ {A = ℕ} 0 1 = cc (here .1) in absurd (omega arith)
+        | inr there ↦ before k (sym (there .1) ∙ applied)
+      ]
 
   pub good-apply : (s : ℕ) → e .standing ≡ Committed → s < m → Good m n (moved e (e .standing) s Applied)
   good-apply s is within =
@@ -144,8 +150,10 @@ module _ {m n : ℕ} (e : Entry) (good : Good m n e) where
       good-same Committed s Applied is committed-used within (
         elim (at-cases (e .status) s Applied (e .coordinator)) [ inl here ↦ here .1 | inr there ↦ there .1 ∙ course .0 ],
         λ k below. elim (at-cases (e .status) s Applied k) [
-            inl here ↦ inr (here .1)
-          | inr there ↦ elim (course .1 k below) [ inl p ↦ inl (there .1 ∙ p) | inr p ↦ inr (there .1 ∙ p) ] ])
+          | inl here ↦ inr (here .1)
+          | inr there ↦ elim (course .1 k below) [ inl p ↦ inl (there .1 ∙ p) | inr p ↦ inr (there .1 ∙ p) ]
+        ],
+      )
 
   pub good-drop : (s : ℕ) → e .standing ≡ Aborted → s < m → Good m n (moved e (e .standing) s Dropped)
   good-drop s is within =
@@ -153,37 +161,50 @@ module _ {m n : ℕ} (e : Entry) (good : Good m n e) where
       good-same Aborted s Dropped is aborted-used within (
         elim (at-cases (e .status) s Dropped (e .coordinator)) [ inl here ↦ here .1 | inr there ↦ there .1 ∙ course .0 ],
         λ k applied. elim (at-cases (e .status) s Dropped k) [
-            inl here ↦ let z : _≡_ {A = ℕ} 0 1 = cc (here .1) in absurd (omega arith)
-          | inr there ↦ course .1 k (sym (there .1) ∙ applied) ])
+          | inl here ↦ let z : _≡_ {A = ℕ} 0 1 = cc (here .1) in absurd (omega arith)
+          | inr there ↦ course .1 k (sym (there .1) ∙ applied)
+        ],
+      )
 
   raised-course : (s : ℕ) → s < m → (y : Standing) (f : ℕ → Status) (c : ℕ) → Course m y c f → Course m y c (at f s (after-up (f s)))
   raised-course s within Absent f c all = λ k. elim (at-cases f s (after-up (f s)) k) [
-      inl here ↦ here .1 ∙ ap after-up (all s)
-    | inr there ↦ there .1 ∙ all k ]
+    | inl here ↦ here .1 ∙ ap after-up (all s)
+    | inr there ↦ there .1 ∙ all k
+  ]
   raised-course s within Undecided f c (inl all) = inl (λ k. elim (at-cases f s (after-up (f s)) k) [
-      inl here ↦ here .1 ∙ ap after-up (all s)
-    | inr there ↦ there .1 ∙ all k ])
+    | inl here ↦ here .1 ∙ ap after-up (all s)
+    | inr there ↦ there .1 ∙ all k
+  ])
   raised-course s within Undecided f c (inr p) = inr (
-      elim (at-cases f s (after-up (f s)) c) [
-          inl here ↦ here .1 ∙ ap (λ k. after-up (f k)) (sym (here .0)) ∙ ap after-up (p .0)
-        | inr there ↦ there .1 ∙ p .0 ],
-      λ k applied. elim (at-cases f s (after-up (f s)) k) [
-          inl here ↦ p .1 s (applied-before-up (f s) (sym (here .1) ∙ applied))
-        | inr there ↦ p .1 k (sym (there .1) ∙ applied) ])
+    elim (at-cases f s (after-up (f s)) c) [
+      | inl here ↦ here .1 ∙ ap (λ k. after-up (f k)) (sym (here .0)) ∙ ap after-up (p .0)
+      | inr there ↦ there .1 ∙ p .0
+    ],
+    λ k applied. elim (at-cases f s (after-up (f s)) k) [
+      | inl here ↦ p .1 s (applied-before-up (f s) (sym (here .1) ∙ applied))
+      | inr there ↦ p .1 k (sym (there .1) ∙ applied)
+    ],
+  )
   raised-course s within Committed f c p = (
-      elim (at-cases f s (after-up (f s)) c) [
-          inl here ↦ here .1 ∙ ap (λ k. after-up (f k)) (sym (here .0)) ∙ ap after-up (p .0)
-        | inr there ↦ there .1 ∙ p .0 ],
-      λ k below. elim (at-cases f s (after-up (f s)) k) [
-          inl here ↦ elim (p .1 s within) [ inl q ↦ inl (here .1 ∙ ap after-up q) | inr q ↦ inr (here .1 ∙ ap after-up q) ]
-        | inr there ↦ elim (p .1 k below) [ inl q ↦ inl (there .1 ∙ q) | inr q ↦ inr (there .1 ∙ q) ] ])
+    elim (at-cases f s (after-up (f s)) c) [
+      | inl here ↦ here .1 ∙ ap (λ k. after-up (f k)) (sym (here .0)) ∙ ap after-up (p .0)
+      | inr there ↦ there .1 ∙ p .0
+    ],
+    λ k below. elim (at-cases f s (after-up (f s)) k) [
+      | inl here ↦ elim (p .1 s within) [ inl q ↦ inl (here .1 ∙ ap after-up q) | inr q ↦ inr (here .1 ∙ ap after-up q) ]
+      | inr there ↦ elim (p .1 k below) [ inl q ↦ inl (there .1 ∙ q) | inr q ↦ inr (there .1 ∙ q) ]
+    ],
+  )
   raised-course s within Aborted f c p = (
-      elim (at-cases f s (after-up (f s)) c) [
-          inl here ↦ here .1 ∙ ap (λ k. after-up (f k)) (sym (here .0)) ∙ ap after-up (p .0)
-        | inr there ↦ there .1 ∙ p .0 ],
-      λ k applied. elim (at-cases f s (after-up (f s)) k) [
-          inl here ↦ p .1 s (applied-before-up (f s) (sym (here .1) ∙ applied))
-        | inr there ↦ p .1 k (sym (there .1) ∙ applied) ])
+    elim (at-cases f s (after-up (f s)) c) [
+      | inl here ↦ here .1 ∙ ap (λ k. after-up (f k)) (sym (here .0)) ∙ ap after-up (p .0)
+      | inr there ↦ there .1 ∙ p .0
+    ],
+    λ k applied. elim (at-cases f s (after-up (f s)) k) [
+      | inl here ↦ p .1 s (applied-before-up (f s) (sym (here .1) ∙ applied))
+      | inr there ↦ p .1 k (sym (there .1) ∙ applied)
+    ],
+  )
 
   pub good-raised : (s : ℕ) → s < m → Good m n (moved e (e .standing) s (after-up (e .status s)))
   good-raised s within = record {

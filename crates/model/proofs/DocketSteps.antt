@@ -93,7 +93,7 @@ module _ (rules : Rules) (w : World) (orderly : Orderly (machines w) (objects w)
   decline-step t s p =
       settled t (d t .standing) s Dropped (in-range t (p .0))
       (good-decline (d t) (orderly .good t) s (undecided-known (d t .standing) (not-false (is-undecided (d t .standing)) (p .1 .1 .1 .0))) (there s M (p .1 .1 .0)) (eqb-false s (d t .coordinator) (p .1 .1 .1 .1 .0))
-        (pending-known _ (not-false (is-pending (d t .status s)) (p .1 .1 .1 .1 .1 .0))))
+      (pending-known _ (not-false (is-pending (d t .status s)) (p .1 .1 .1 .1 .1 .0))))
       (λ h. absurd (false≢true h))
 
   -- every machine has promised

@@ -55,16 +55,18 @@ not-both m n e good s s′ applied dropped = by (e .standing) (good .course)
   where
     dropped-inside : s′ < m
     dropped-inside = elim (cases-lt s′ m) [
-        inl within ↦ within
-      | inr past ↦ let z : _≡_ {A = ℕ} 0 1 = cc (good .outside s′ past) in absurd (omega arith) ]
+      | inl within ↦ within
+      | inr past ↦ let z : _≡_ {A = ℕ} 0 1 = cc (good .outside s′ past) in absurd (omega arith)
+    ]
 
     by : (y : Standing) → Course m y (e .coordinator) (e .status) → ⊥
     by Absent all = let z : _≡_ {A = ℕ} 0 1 = cc (all s) in omega arith
     by Undecided (inl all) = let z : _≡_ {A = ℕ} 0 1 = cc (all s) in omega arith
     by Undecided (inr p) = p .1 s applied
     by Committed p = elim (p .1 s′ dropped-inside) [
-        inl q ↦ let z : _≡_ {A = ℕ} 0 1 = cc in omega arith
-      | inr q ↦ let z : _≡_ {A = ℕ} 0 1 = cc in omega arith ]
+      | inl q ↦ let z : _≡_ {A = ℕ} 0 1 = cc in omega arith
+      | inr q ↦ let z : _≡_ {A = ℕ} 0 1 = cc in omega arith
+    ]
     by Aborted p = p .1 s applied
 
 module _ (rules : Rules) (w : World) (orderly : Orderly (machines w) (objects w) (w .docket)) (t s : ℕ) (x : Status) (final : Final x) (is : w .docket t .status s ≡ x) where
@@ -74,11 +76,12 @@ module _ (rules : Rules) (w : World) (orderly : Orderly (machines w) (objects w)
   -- an entry of another transaction, or a status that was not final
   stays : (u : ℕ) (y : Standing) (k : ℕ) (z : Status) → (d u .status k ≢ x) → at d u (moved (d u) y k z) t .status s ≡ x
   stays u y k z loose = elim (at-cases d u (moved (d u) y k z) t) [
-      inl here ↦
+    | inl here ↦
         ap (λ e. e .status s) (here .1)
         ∙ at-other (d u .status) k z s (λ q. loose (ap (d u .status) (sym q) ∙ ap (λ j. d j .status s) (sym (here .0)) ∙ is))
         ∙ ap (λ j. d j .status s) (sym (here .0)) ∙ is
-    | inr there ↦ ap (λ e. e .status s) (there .1) ∙ is ]
+    | inr there ↦ ap (λ e. e .status s) (there .1) ∙ is
+  ]
 
   from-none : (u k : ℕ) → not (is-none (d u .status k)) ≡ false → d u .status k ≢ x
   from-none u k e q = final .not-none (sym q ∙ none-known (d u .status k) (not-false (is-none (d u .status k)) e))
@@ -91,23 +94,26 @@ module _ (rules : Rules) (w : World) (orderly : Orderly (machines w) (objects w)
 
   from-holding : (u k : ℕ) → not (is-holding (d u .status k)) ≡ false → d u .status k ≢ x
   from-holding u k e q = elim (holding-known (d u .status k) (not-false (is-holding (d u .status k)) e)) [
-      inl pending ↦ final .not-pending (sym q ∙ pending)
-    | inr promised ↦ final .not-promised (sym q ∙ promised) ]
+    | inl pending ↦ final .not-pending (sym q ∙ pending)
+    | inr promised ↦ final .not-promised (sym q ∙ promised)
+  ]
 
   -- the coordinator of an undecided transaction has nothing final
   from-undecided : (u : ℕ) → d u .standing ≡ Undecided → d u .status (d u .coordinator) ≢ x
   from-undecided u undecided q = elim (course-of (d u) (orderly .good u) Undecided undecided) [
-      inl all ↦ final .not-none (sym q ∙ all (d u .coordinator))
-    | inr p ↦ final .not-promised (sym q ∙ p .0) ]
+    | inl all ↦ final .not-none (sym q ∙ all (d u .coordinator))
+    | inr p ↦ final .not-promised (sym q ∙ p .0)
+  ]
 
   pub final-stays : (call : Call) → first (checks rules call w) ≡ 0 → clears t call ≡ false → docket-after call d t .status s ≡ x
   final-stays (start u k list order) ok kept =
       let p = passed (start-checks rules w u k list order) refl ok in
       elim (at-cases d u (started k list order) t) [
-        inl here ↦
-          let all = course-of (d u) (orderly .good u) Absent (absent-known (d u .standing) (not-false (is-absent (d u .standing)) (p .1 .0))) in
-          absurd (final .not-none (sym is ∙ ap (λ j. d j .status s) (here .0) ∙ all s))
-      | inr there ↦ ap (λ e. e .status s) (there .1) ∙ is ]
+        | inl here ↦
+            let all = course-of (d u) (orderly .good u) Absent (absent-known (d u .standing) (not-false (is-absent (d u .standing)) (p .1 .0))) in
+            absurd (final .not-none (sym is ∙ ap (λ j. d j .status s) (here .0) ∙ all s))
+        | inr there ↦ ap (λ e. e .status s) (there .1) ∙ is
+      ]
   final-stays (issue u) ok kept =
       let p = passed (issue-checks rules w u (d u)) refl ok in
       stays u (d u .standing) (d u .coordinator) Promised (from-none u (d u .coordinator) (p .1 .1 .1 .0))
@@ -134,11 +140,13 @@ module _ (rules : Rules) (w : World) (orderly : Orderly (machines w) (objects w)
       stays u (d u .standing) k Dropped (from-holding u k (p .1 .1 .1 .1 .0))
   final-stays (clear u) ok kept =
       elim (at-cases d u blank t) [
-        inl here ↦ absurd (both-ways (eqb u t) kept (eq-eqb u t (sym (here .0))))
-      | inr there ↦ ap (λ e. e .status s) (there .1) ∙ is ]
+        | inl here ↦ absurd (both-ways (eqb u t) kept (eq-eqb u t (sym (here .0))))
+        | inr there ↦ ap (λ e. e .status s) (there .1) ∙ is
+      ]
   final-stays (down k) ok kept = is
   final-stays (up k) ok kept = elim (at-cases (d t .status) k (after-up (d t .status k)) s) [
-      inl here ↦ here .1 ∙ ap (λ j. after-up (d t .status j)) (sym (here .0)) ∙ ap after-up is ∙ final .over-up
-    | inr there ↦ there .1 ∙ is ]
+    | inl here ↦ here .1 ∙ ap (λ j. after-up (d t .status j)) (sym (here .0)) ∙ ap after-up is ∙ final .over-up
+    | inr there ↦ there .1 ∙ is
+  ]
   final-stays (tidy k) ok kept = is
   final-stays (read k list buffer) ok kept = is

@@ -44,35 +44,36 @@ module _ (rules : Rules) (count : (order olds : List ℕ) → length (rules .new
 
   -- an accepted read sees nothing that is still owed
   read-agrees : (history : History) (v : World) → Sound rules opening m n history v → (s : ℕ) (list : List ℕ) (buffer : ℕ) → first (checks rules (read s list buffer) v) ≡ 0
-    → picked (copy v s) list ≡ picked (ledger-of rules opening history) list
+      → picked (copy v s) list ≡ picked (ledger-of rules opening history) list
   read-agrees history v sound s list buffer ok =
       let p = passed (read-checks v s list buffer) refl ok in
       let within : s < m = subst (λ (k : ℕ). s < k) (sound .counted) (there s (machines v) (p .0)) in
       let below : all-below n list ≡ true = subst (λ (k : ℕ). all-below k list ≡ true) (sound .agree .long 0 (some-machine stores well)) (not-false (all-below (objects v) list) (p .1 .1 .1 .0)) in
       picked-same (copy v s) (ledger-of rules opening history) list (λ o in-list.
-        sound .agree .copies s o within (listed-below n list o below in-list) (λ t owes in-objects.
-          not-held (v .docket) (sound .orderly) s list (p .1 .1 .1 .1 .1 .1 .0) t (owes .holding) o in-list in-objects))
+      sound .agree .copies s o within (listed-below n list o below in-list) (λ t owes in-objects.
+      not-held (v .docket) (sound .orderly) s list (p .1 .1 .1 .1 .1 .1 .0) t (owes .holding) o in-list in-objects))
 
   -- a final status lasts through one life
   lasts : (middle earlier : History) (v : World) → Run rules (opened stores) (middle ++ earlier) v → (t s : ℕ) (x : Status) → Final x → one-life t middle ≡ true
-    → docket-of earlier t .status s ≡ x → docket-of (middle ++ earlier) t .status s ≡ x
+      → docket-of earlier t .status s ≡ x → docket-of (middle ++ earlier) t .status s ≡ x
   lasts [] earlier v run t s x final life is = is
   lasts (event ∷ middle) earlier v (u, run, step) t s x final life is =
       let parts = and-parts (not (accepted event && clears t (event .call))) (one-life t middle) life in
       let before : docket-of (middle ++ earlier) t .status s ≡ x = lasts middle earlier u run t s x final (parts .1) is in
       let sound = sound-at (middle ++ earlier) u run in
       elim (cases-eq (event .number) 0) [
-        inl zero ↦
-          let yes : accepted event ≡ true = eq-eqb (event .number) 0 zero in
-          let kept : clears t (event .call) ≡ false = elim (and-cases (accepted event) (clears t (event .call)) (not-true _ (parts .0))) [ inl idle ↦ absurd (both-ways (accepted event) idle yes) | inr q ↦ q ] in
-          let after : docket-after (event .call) (u .docket) t .status s ≡ x =
-              final-stays rules u (orderly-here count (some-machine stores well) (middle ++ earlier) u sound) t s x final (ap (λ (d : Docket). d t .status s) (sound .agrees) ∙ before) (event .call)
-              (own-checks rules count stores well (middle ++ earlier) u sound event v step zero) kept in
-          ap (λ (d : Docket). d t .status s) (cond-true (accepted event) (docket-after (event .call) (docket-of (middle ++ earlier))) (docket-of (middle ++ earlier)) yes)
-          ∙ ap (λ (d : Docket). docket-after (event .call) d t .status s) (sym (sound .agrees))
-          ∙ after
-      | inr other ↦
-          ap (λ (d : Docket). d t .status s) (cond-false (accepted event) (docket-after (event .call) (docket-of (middle ++ earlier))) (docket-of (middle ++ earlier)) (ne-eqb (event .number) 0 other)) ∙ before ]
+        | inl zero ↦
+            let yes : accepted event ≡ true = eq-eqb (event .number) 0 zero in
+            let kept : clears t (event .call) ≡ false = elim (and-cases (accepted event) (clears t (event .call)) (not-true _ (parts .0))) [ inl idle ↦ absurd (both-ways (accepted event) idle yes) | inr q ↦ q ] in
+            let after : docket-after (event .call) (u .docket) t .status s ≡ x =
+            final-stays rules u (orderly-here count (some-machine stores well) (middle ++ earlier) u sound) t s x final (ap (λ (d : Docket). d t .status s) (sound .agrees) ∙ before) (event .call)
+            (own-checks rules count stores well (middle ++ earlier) u sound event v step zero) kept in
+            ap (λ (d : Docket). d t .status s) (cond-true (accepted event) (docket-after (event .call) (docket-of (middle ++ earlier))) (docket-of (middle ++ earlier)) yes)
+            ∙ ap (λ (d : Docket). docket-after (event .call) d t .status s) (sym (sound .agrees))
+            ∙ after
+        | inr other ↦
+            ap (λ (d : Docket). d t .status s) (cond-false (accepted event) (docket-after (event .call) (docket-of (middle ++ earlier))) (docket-of (middle ++ earlier)) (ne-eqb (event .number) 0 other)) ∙ before
+      ]
 
   never-both : (history : History) (v : World) → Run rules (opened stores) history v → (t s s′ : ℕ) → docket-of history t .status s ≡ Applied → docket-of history t .status s′ ≡ Dropped → ⊥
   never-both history v run t s s′ applied dropped =
@@ -84,8 +85,8 @@ module _ (rules : Rules) (count : (order olds : List ℕ) → length (rules .new
     sound = sound-at history w run
 
     reads-agree : (later earlier : History) (event : Event) (s : ℕ) (list : List ℕ) (buffer : ℕ)
-      → history ≡ later ++ (event ∷ earlier) → event .call ≡ read s list buffer → event .number ≡ 0
-      → event .values ≡ picked (ledger-of rules opening earlier) list
+        → history ≡ later ++ (event ∷ earlier) → event .call ≡ read s list buffer → event .number ≡ 0
+        → event .values ≡ picked (ledger-of rules opening earlier) list
     reads-agree later earlier event s list buffer split called zero =
         let at-event = moment-of rules (opened stores) later earlier event w (subst (λ (h : History). Run rules (opened stores) h w) split run) in
         let v = at-event .before in
@@ -96,12 +97,13 @@ module _ (rules : Rules) (count : (order olds : List ℕ) → length (rules .new
         ∙ read-agrees earlier v before s list buffer (ap (λ c. first (checks rules c v)) (sym called) ∙ ok)
 
     in-one-life : (later middle earlier : History) (t s s′ : ℕ) → history ≡ later ++ (middle ++ earlier) → one-life t middle ≡ true
-      → ((docket-of (middle ++ earlier) t .status s ≡ Applied → docket-of earlier t .status s′ ≡ Dropped → ⊥)
-         × (docket-of (middle ++ earlier) t .status s ≡ Dropped → docket-of earlier t .status s′ ≡ Applied → ⊥))
+        → ((docket-of (middle ++ earlier) t .status s ≡ Applied → docket-of earlier t .status s′ ≡ Dropped → ⊥)
+        × (docket-of (middle ++ earlier) t .status s ≡ Dropped → docket-of earlier t .status s′ ≡ Applied → ⊥))
     in-one-life later middle earlier t s s′ split life =
-        let now = until rules (opened stores) later (middle ++ earlier) w (subst (λ (h : History). Run rules (opened stores) h w) split run) in
-        ((λ applied dropped. never-both (middle ++ earlier) (now .reached) (now .run) t s s′ applied (lasts middle earlier (now .reached) (now .run) t s′ Dropped dropped-final life dropped)),
-         (λ dropped applied. never-both (middle ++ earlier) (now .reached) (now .run) t s′ s (lasts middle earlier (now .reached) (now .run) t s′ Applied applied-final life applied) dropped))
+        let now = until rules (opened stores) later (middle ++ earlier) w (subst (λ (h : History). Run rules (opened stores) h w) split run) in (
+          (λ applied dropped. never-both (middle ++ earlier) (now .reached) (now .run) t s s′ applied (lasts middle earlier (now .reached) (now .run) t s′ Dropped dropped-final life dropped)),
+          (λ dropped applied. never-both (middle ++ earlier) (now .reached) (now .run) t s′ s (lasts middle earlier (now .reached) (now .run) t s′ Applied applied-final life applied) dropped),
+        )
 
     abbrev d : Docket
     d = docket-of history
@@ -111,11 +113,11 @@ module _ (rules : Rules) (count : (order olds : List ℕ) → length (rules .new
       agrees = sound .agrees;
       reads = reads-agree;
       copies = λ s o within below free.
-        sound .agree .copies s o (subst (λ (k : ℕ). s < k) (sound .counted) within) (subst (λ (k : ℕ). o < k) (sound .agree .long 0 (some-machine stores well)) below)
-        (λ t owes in-list. free t (subst (λ (x : Docket). Owing (x t) s) (sound .agrees) owes) (ap (λ (x : Docket). listed o (x t .objects)) (sym (sound .agrees)) ∙ in-list));
+          sound .agree .copies s o (subst (λ (k : ℕ). s < k) (sound .counted) within) (subst (λ (k : ℕ). o < k) (sound .agree .long 0 (some-machine stores well)) below)
+          (λ t owes in-list. free t (subst (λ (x : Docket). Owing (x t) s) (sound .agrees) owes) (ap (λ (x : Docket). listed o (x t .objects)) (sym (sound .agrees)) ∙ in-list));
       owing = λ t s within owes.
-        subst (λ (x : Docket). picked (ledger-of rules opening history) (x t .objects) ≡ rules .news (x t .order) (picked (copy w s) (x t .objects))) (sound .agrees)
-        (sound .agree .owing t s (subst (λ (k : ℕ). s < k) (sound .counted) within) (subst (λ (x : Docket). Owing (x t) s) (sym (sound .agrees)) owes));
+          subst (λ (x : Docket). picked (ledger-of rules opening history) (x t .objects) ≡ rules .news (x t .order) (picked (copy w s) (x t .objects))) (sound .agrees)
+          (sound .agree .owing t s (subst (λ (k : ℕ). s < k) (sound .counted) within) (subst (λ (x : Docket). Owing (x t) s) (sym (sound .agrees)) owes));
       atomic = in-one-life;
       rooms = λ s within. subst (λ (x : Docket). owed rules x s ≤ room w s) (sound .agrees) (sound .rooms s (subst (λ (k : ℕ). s < k) (sound .counted) within));
     }
@@ -125,8 +127,9 @@ opening-kept : (rules : Rules) (w : World) (history : History) (w′ : World) �
 opening-kept rules w [] w′ same = ap (λ x. x .opening) same
 opening-kept rules w (event ∷ history) w′ (v, run, step) =
     elim (cases-eq (event .number) 0) [
-      inl zero ↦ step .accepted zero .opening ∙ opening-kept rules w history v run
-    | inr other ↦ ap (λ x. x .opening) (step .refused other .0) ∙ opening-kept rules w history v run ]
+      | inl zero ↦ step .accepted zero .opening ∙ opening-kept rules w history v run
+      | inr other ↦ ap (λ x. x .opening) (step .refused other .0) ∙ opening-kept rules w history v run
+    ]
 
 refusals-agree : (rules : Rules) (stores : List StoreState) (history : History) (w : World) → Run rules (opened stores) history w → (opening-number stores ≡ 0 → ⊥)
     → (later earlier : History) (event : Event) → history ≡ later ++ (event ∷ earlier) → event .number ≡ opening-number stores

@@ -9,6 +9,7 @@ pub mod Known
 pub mod Law
 pub mod Orderly
 pub mod Passed
+pub mod Played
 pub mod Rooms
 pub mod Runs
 pub mod Sound

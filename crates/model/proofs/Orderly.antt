@@ -58,8 +58,9 @@ module _ {m n : ℕ} (d : Docket) (orderly : Orderly m n d) where
   pub orderly-at : (t : ℕ) (e : Entry) → t < transactions → Good m n e → ((s : ℕ) → Holds e s → Grows d t e s) → Orderly m n (at d t e)
   orderly-at t e below good grows = record {
     good = λ k. elim (at-cases d t e k) [
-        inl here ↦ subst (Good m n) (sym (here .1)) good
-      | inr there ↦ subst (Good m n) (sym (there .1)) (orderly .good k) ];
+      | inl here ↦ subst (Good m n) (sym (here .1)) good
+      | inr there ↦ subst (Good m n) (sym (there .1)) (orderly .good k)
+    ];
     few = λ k past. at-few k past;
     disjoint = disjoint;
   }
@@ -69,43 +70,50 @@ module _ {m n : ℕ} (d : Docket) (orderly : Orderly m n d) where
 
       disjoint : (s k k′ : ℕ) → k ≢ k′ → Holds (at d t e k) s → Holds (at d t e k′) s → Apart (at d t e k .objects) (at d t e k′ .objects)
       disjoint s k k′ other h h′ = elim (at-cases d t e k) [
-          inl here ↦ elim (at-cases d t e k′) [
-              inl here′ ↦ absurd (other (here .0 ∙ sym (here′ .0)))
-            | inr there′ ↦
-                subst (λ (x : Entry). Apart (x .objects) (at d t e k′ .objects)) (sym (here .1))
-                (subst (λ (x : Entry). Apart (e .objects) (x .objects)) (sym (there′ .1))
-                  (grown-apart t e s (grows s (subst (λ (x : Entry). Holds x s) (here .1) h)) k′ (there′ .0) (subst (λ (x : Entry). Holds x s) (there′ .1) h′))) ]
+        | inl here ↦ elim (at-cases d t e k′) [
+          | inl here′ ↦ absurd (other (here .0 ∙ sym (here′ .0)))
+          | inr there′ ↦
+              subst (λ (x : Entry). Apart (x .objects) (at d t e k′ .objects)) (sym (here .1))
+              (subst (λ (x : Entry). Apart (e .objects) (x .objects)) (sym (there′ .1))
+              (grown-apart t e s (grows s (subst (λ (x : Entry). Holds x s) (here .1) h)) k′ (there′ .0) (subst (λ (x : Entry). Holds x s) (there′ .1) h′)))
+        ]
         | inr there ↦ elim (at-cases d t e k′) [
-              inl here′ ↦
-                subst (λ (x : Entry). Apart (x .objects) (at d t e k′ .objects)) (sym (there .1))
-                (subst (λ (x : Entry). Apart (d k .objects) (x .objects)) (sym (here′ .1))
-                  (apart-flip (e .objects) (d k .objects) (grown-apart t e s (grows s (subst (λ (x : Entry). Holds x s) (here′ .1) h′)) k (there .0) (subst (λ (x : Entry). Holds x s) (there .1) h))))
-            | inr there′ ↦
-                subst (λ (x : Entry). Apart (x .objects) (at d t e k′ .objects)) (sym (there .1))
-                (subst (λ (x : Entry). Apart (d k .objects) (x .objects)) (sym (there′ .1))
-                  (orderly .disjoint s k k′ other (subst (λ (x : Entry). Holds x s) (there .1) h) (subst (λ (x : Entry). Holds x s) (there′ .1) h′))) ] ]
+          | inl here′ ↦
+              subst (λ (x : Entry). Apart (x .objects) (at d t e k′ .objects)) (sym (there .1))
+              (subst (λ (x : Entry). Apart (d k .objects) (x .objects)) (sym (here′ .1))
+              (apart-flip (e .objects) (d k .objects) (grown-apart t e s (grows s (subst (λ (x : Entry). Holds x s) (here′ .1) h′)) k (there .0) (subst (λ (x : Entry). Holds x s) (there .1) h))))
+          | inr there′ ↦
+              subst (λ (x : Entry). Apart (x .objects) (at d t e k′ .objects)) (sym (there .1))
+              (subst (λ (x : Entry). Apart (d k .objects) (x .objects)) (sym (there′ .1))
+              (orderly .disjoint s k k′ other (subst (λ (x : Entry). Holds x s) (there .1) h) (subst (λ (x : Entry). Holds x s) (there′ .1) h′)))
+        ]
+      ]
 
   -- what a test of the held objects tells
   pub not-held : (s : ℕ) (list : List ℕ) → held d s list ≡ false → (t′ : ℕ) → Holds (d t′) s → Apart list (d t′ .objects)
   not-held s list none t′ holds o in-list in-objects =
       elim (cases-lt t′ transactions) [
-        inl below ↦
-          elim (and-cases (is-holding (d t′ .status s)) (overlap (d t′ .objects) list) (any-to-none transactions (λ t. is-holding (d t .status s) && overlap (d t .objects) list) none t′ below)) [
-            inl idle ↦ both-ways _ idle holds
-          | inr apart ↦ overlap-none (d t′ .objects) list o apart in-objects in-list ]
-      | inr past ↦
-          let all = course-of (d t′) (orderly .good t′) Absent (orderly .few t′ past) in
-          both-ways (is-holding (d t′ .status s)) (ap is-holding (all s)) holds ]
+        | inl below ↦
+            elim (and-cases (is-holding (d t′ .status s)) (overlap (d t′ .objects) list) (any-to-none transactions (λ t. is-holding (d t .status s) && overlap (d t .objects) list) none t′ below)) [
+              | inl idle ↦ both-ways _ idle holds
+              | inr apart ↦ overlap-none (d t′ .objects) list o apart in-objects in-list
+            ]
+        | inr past ↦
+            let all = course-of (d t′) (orderly .good t′) Absent (orderly .few t′ past) in
+            both-ways (is-holding (d t′ .status s)) (ap is-holding (all s)) holds
+      ]
 
   -- a status that holds nothing, or what was held already
   pub moved-grows : (t : ℕ) (y : Standing) (s : ℕ) (x : Status) → (is-holding x ≡ true → (Holds (d t) s) ⊎ ((t′ : ℕ) → t′ ≢ t → Holds (d t′) s → Apart (d t .objects) (d t′ .objects)))
-    → (k : ℕ) → Holds (moved (d t) y s x) k → Grows d t (moved (d t) y s x) k
+      → (k : ℕ) → Holds (moved (d t) y s x) k → Grows d t (moved (d t) y s x) k
   moved-grows t y s x here k holds = elim (at-cases (d t .status) s x k) [
-      inl at-s ↦
+    | inl at-s ↦
         elim (here (ap is-holding (sym (at-s .1)) ∙ holds)) [
-          inl old ↦ inl (subst (λ (j : ℕ). Holds (d t) j) (sym (at-s .0)) old, refl)
-        | inr new ↦ inr (λ t′ other h′. new t′ other (subst (λ (j : ℕ). Holds (d t′) j) (at-s .0) h′)) ]
-    | inr there ↦ inl (ap is-holding (sym (there .1)) ∙ holds, refl) ]
+          | inl old ↦ inl (subst (λ (j : ℕ). Holds (d t) j) (sym (at-s .0)) old, refl)
+          | inr new ↦ inr (λ t′ other h′. new t′ other (subst (λ (j : ℕ). Holds (d t′) j) (at-s .0) h′))
+        ]
+    | inr there ↦ inl (ap is-holding (sym (there .1)) ∙ holds, refl)
+  ]
 
   pub orderly-raised : (s : ℕ) → s < m → Orderly m n (raised d s)
   orderly-raised s within = record {
@@ -116,5 +124,6 @@ module _ {m n : ℕ} (d : Docket) (orderly : Orderly m n d) where
     where
       before : (t k : ℕ) → Holds (raised d s t) k → Holds (d t) k
       before t k h = elim (at-cases (d t .status) s (after-up (d t .status s)) k) [
-          inl here ↦ subst (λ (j : ℕ). Holds (d t) j) (sym (here .0)) (holding-before-up (d t .status s) (ap is-holding (sym (here .1)) ∙ h))
-        | inr there ↦ ap is-holding (sym (there .1)) ∙ h ]
+        | inl here ↦ subst (λ (j : ℕ). Holds (d t) j) (sym (here .0)) (holding-before-up (d t .status s) (ap is-holding (sym (here .1)) ∙ h))
+        | inr there ↦ ap is-holding (sym (there .1)) ∙ h
+      ]

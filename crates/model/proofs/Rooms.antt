@@ -48,5 +48,6 @@ owed-raised rules d u s = sum-same transactions (λ t. owes rules s (raised d u 
   where
     same : (t : ℕ) → owes rules s (raised d u t) ≡ owes rules s (d t)
     same t = elim (at-cases (d t .status) u (after-up (d t .status u)) s) [
-        inl here ↦ ap (λ b. cond b (writes rules (d t)) 0) (ap is-promised (here .1) ∙ promised-over-up (d t .status u) ∙ ap (λ k. is-promised (d t .status k)) (sym (here .0)))
-      | inr there ↦ ap (λ st. cond (is-promised st) (writes rules (d t)) 0) (there .1) ]
+      | inl here ↦ ap (λ b. cond b (writes rules (d t)) 0) (ap is-promised (here .1) ∙ promised-over-up (d t .status u) ∙ ap (λ k. is-promised (d t .status k)) (sym (here .0)))
+      | inr there ↦ ap (λ st. cond (is-promised st) (writes rules (d t)) 0) (there .1)
+    ]

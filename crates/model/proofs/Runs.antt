@@ -57,11 +57,11 @@ sound-refused rules opening m n history w w′ event other same sound =
       agrees = sound .agrees ∙ sym (cond-false (accepted event) (docket-after (event .call) (docket-of history)) (docket-of history) idle);
       orderly = sound .orderly;
       starts = λ t used.
-        let kept : last-start t (event ∷ history) ≡ last-start t history = cond-false (accepted event) (start-of t (event .call) (last-start t history)) (last-start t history) idle in
-        let s = sound .starts t used in
-        (s .0 ∙ ap (λ o. o .0) (sym kept), s .1 ∙ ap (λ o. o .1) (sym kept));
+          let kept : last-start t (event ∷ history) ≡ last-start t history = cond-false (accepted event) (start-of t (event .call) (last-start t history)) (last-start t history) idle in
+          let s = sound .starts t used in
+          (s .0 ∙ ap (λ o. o .0) (sym kept), s .1 ∙ ap (λ o. o .1) (sym kept));
       agree = subst (λ (l : List ℕ). Agree rules m n (w .docket) (copy w) l)
-        (sym (cond-false (accepted event) (ledger-after rules (event .call) (λ t. last-start t history) (ledger-of rules opening history)) (ledger-of rules opening history) idle)) (sound .agree);
+          (sym (cond-false (accepted event) (ledger-after rules (event .call) (λ t. last-start t history) (ledger-of rules opening history)) (ledger-of rules opening history) idle)) (sound .agree);
       rooms = sound .rooms;
     })
   where
@@ -79,8 +79,9 @@ module _ (rules : Rules) (count : (order olds : List ℕ) → length (rules .new
   pub sound-step : (history : History) (v : World) → SoundAt history v → (event : Event) (w : World) → Step rules v event w → SoundAt (event ∷ history) w
   sound-step history v sound event w step =
       elim (cases-eq (event .number) 0) [
-        inl zero ↦ sound-after count (some-machine stores well) history v sound w event zero (own-checks history v sound event w step zero) (step .accepted zero)
-      | inr other ↦ sound-refused rules (store-at stores 0 .values) (place-count stores) (length (store-at stores 0 .values)) history v w event other (step .refused other .0) sound ]
+        | inl zero ↦ sound-after count (some-machine stores well) history v sound w event zero (own-checks history v sound event w step zero) (step .accepted zero)
+        | inr other ↦ sound-refused rules (store-at stores 0 .values) (place-count stores) (length (store-at stores 0 .values)) history v w event other (step .refused other .0) sound
+      ]
 
   pub sound-run : (history : History) (w : World) → Run rules (opened stores) history w → SoundAt history w
   sound-run [] w same = subst (SoundAt []) (sym same) (sound-opened rules stores well)

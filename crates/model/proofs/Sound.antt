@@ -55,7 +55,7 @@ one-count : (c : ℕ) (before after : List StoreState) → after ≡ set before 
 one-count c before after one = ap (min 255) (ap length one ∙ length-set before c (store-at after c))
 
 module _ {rules : Rules} (count : (order olds : List ℕ) → length (rules .news order olds) ≡ length olds) {opening : List ℕ} {m n : ℕ} (some : 0 < m)
-  (history : History) (w : World) (sound : Sound rules opening m n history w) where
+    (history : History) (w : World) (sound : Sound rules opening m n history w) where
   abbrev d : Docket
   d = w .docket
 
@@ -77,25 +77,27 @@ module _ {rules : Rules} (count : (order olds : List ℕ) → length (rules .new
 
   moved-starts : (u : ℕ) (y : Standing) (s : ℕ) (x : Status) → d u .standing ≢ Absent → Starts (at d u (moved (d u) y s x)) orders
   moved-starts u y s x used t now = elim (at-cases d u (moved (d u) y s x) t) [
-      inl here ↦
+    | inl here ↦
         let mine = sound .starts u used in
         (ap (λ e. e .objects) (here .1) ∙ mine .0 ∙ ap (λ k. orders k .0) (sym (here .0)), ap (λ e. e .order) (here .1) ∙ mine .1 ∙ ap (λ k. orders k .1) (sym (here .0)))
     | inr away ↦
         let theirs = sound .starts t (λ absent. now (ap (λ e. e .standing) (away .1) ∙ absent)) in
-        (ap (λ e. e .objects) (away .1) ∙ theirs .0, ap (λ e. e .order) (away .1) ∙ theirs .1) ]
+        (ap (λ e. e .objects) (away .1) ∙ theirs .0, ap (λ e. e .order) (away .1) ∙ theirs .1)
+  ]
 
   in-use-now : (t : ℕ) → is-absent (d t .standing) ≡ false → d t .standing ≢ Absent
   in-use-now t some′ absent = both-ways (is-absent (d t .standing)) some′ (ap is-absent absent)
 
   next-starts : (call : Call) → first (checks rules call w) ≡ 0 → Starts (docket-after call d) (λ t. start-of t call (orders t))
   next-starts (start u s list order) ok = λ t now. elim (at-cases d u (started s list order) t) [
-      inl here ↦
+    | inl here ↦
         let mine : cond (eqb u t) (list, order) (orders t) ≡ (list, order) = cond-true (eqb u t) (list, order) (orders t) (eq-eqb u t (sym (here .0))) in
         (ap (λ e. e .objects) (here .1) ∙ ap (λ o. o .0) (sym mine), ap (λ e. e .order) (here .1) ∙ ap (λ o. o .1) (sym mine))
     | inr away ↦
         let theirs = sound .starts t (λ absent. now (ap (λ e. e .standing) (away .1) ∙ absent)) in
         let same : cond (eqb u t) (list, order) (orders t) ≡ orders t = cond-false (eqb u t) (list, order) (orders t) (ne-eqb u t (λ q. away .0 (sym q))) in
-        (ap (λ e. e .objects) (away .1) ∙ theirs .0 ∙ ap (λ o. o .0) (sym same), ap (λ e. e .order) (away .1) ∙ theirs .1 ∙ ap (λ o. o .1) (sym same)) ]
+        (ap (λ e. e .objects) (away .1) ∙ theirs .0 ∙ ap (λ o. o .0) (sym same), ap (λ e. e .order) (away .1) ∙ theirs .1 ∙ ap (λ o. o .1) (sym same))
+  ]
   next-starts (issue u) ok = moved-starts u (d u .standing) (d u .coordinator) Promised (in-use-now u (passed (issue-checks rules w u (d u)) refl ok .1 .0))
   next-starts (begin u s) ok = moved-starts u (d u .standing) s Pending (in-use-now u (passed (begin-checks w u s (d u)) refl ok .1 .0))
   next-starts (promise u s) ok = moved-starts u (d u .standing) s Promised (in-use-now u (passed (promise-checks rules w u s (d u)) refl ok .1 .0))
@@ -105,10 +107,11 @@ module _ {rules : Rules} (count : (order olds : List ℕ) → length (rules .new
   next-starts (apply u s) ok = moved-starts u (d u .standing) s Applied (in-use-now u (passed (apply-checks w u s (d u)) refl ok .1 .0))
   next-starts (drop u s) ok = moved-starts u (d u .standing) s Dropped (in-use-now u (passed (drop-checks w u s (d u)) refl ok .1 .0))
   next-starts (clear u) ok = λ t now. elim (at-cases d u blank t) [
-      inl here ↦ absurd (now (ap (λ e. e .standing) (here .1)))
+    | inl here ↦ absurd (now (ap (λ e. e .standing) (here .1)))
     | inr away ↦
         let theirs = sound .starts t (λ absent. now (ap (λ e. e .standing) (away .1) ∙ absent)) in
-        (ap (λ e. e .objects) (away .1) ∙ theirs .0, ap (λ e. e .order) (away .1) ∙ theirs .1) ]
+        (ap (λ e. e .objects) (away .1) ∙ theirs .0, ap (λ e. e .order) (away .1) ∙ theirs .1)
+  ]
   next-starts (down s) ok = sound .starts
   next-starts (up s) ok = sound .starts
   next-starts (tidy s) ok = sound .starts
@@ -165,9 +168,9 @@ module _ {rules : Rules} (count : (order olds : List ℕ) → length (rules .new
         subst (λ (l : List ℕ). Agree rules m n (docket-after (commit u) d) (copy w′) l)
         (ap (λ os. renewed rules os (d u .order) ledger) (mine .0) ∙ ap (λ order. renewed rules (orders u .0) order ledger) (mine .1))
         (agree-commit count d (sound .orderly) (copy w) (copy w′) ledger (sound .agree) u used (d u .coordinator)
-          (change .values) (λ s other. ap (λ x. x .values) (one-other (d u .coordinator) (w .stores) (w′ .stores) one s other))
-          (undecided-known (d u .standing) (not-false (is-undecided (d u .standing)) (p .1 .1 .0)))
-          (λ k below. all-promised rules w orderly-here u p k (subst (λ (j : ℕ). k < j) (sym (sound .counted)) below)))
+        (change .values) (λ s other. ap (λ x. x .values) (one-other (d u .coordinator) (w .stores) (w′ .stores) one s other))
+        (undecided-known (d u .standing) (not-false (is-undecided (d u .standing)) (p .1 .1 .0)))
+        (λ k below. all-promised rules w orderly-here u p k (subst (λ (j : ℕ). k < j) (sym (sound .counted)) below)))
     next-agree (abort u) ok same =
         let p = passed (abort-checks w u (d u)) refl ok in
         quiet (docket-after (abort u) d) same
@@ -175,10 +178,10 @@ module _ {rules : Rules} (count : (order olds : List ℕ) → length (rules .new
     next-agree (apply u s) ok (one, change) =
         let p = passed (apply-checks w u s (d u)) refl ok in
         agree-apply count d (sound .orderly) (copy w) (copy w′) ledger (sound .agree) u (in-use-now u (p .1 .0)) s
-          (change .values) (λ k other. ap (λ x. x .values) (one-other s (w .stores) (w′ .stores) one k other))
-          (subst (λ (j : ℕ). s < j) (sound .counted) (there s (machines w) (p .1 .1 .0)))
-          (committed-known (d u .standing) (not-false (is-committed (d u .standing)) (p .1 .1 .1 .0)))
-          (promised-known (d u .status s) (not-false (is-promised (d u .status s)) (p .1 .1 .1 .1 .0)))
+        (change .values) (λ k other. ap (λ x. x .values) (one-other s (w .stores) (w′ .stores) one k other))
+        (subst (λ (j : ℕ). s < j) (sound .counted) (there s (machines w) (p .1 .1 .0)))
+        (committed-known (d u .standing) (not-false (is-committed (d u .standing)) (p .1 .1 .1 .0)))
+        (promised-known (d u .status s) (not-false (is-promised (d u .status s)) (p .1 .1 .1 .1 .0)))
     next-agree (drop u s) ok same =
         let p = passed (drop-checks w u s (d u)) refl ok in
         let is = aborted-known (d u .standing) (not-false (is-aborted (d u .standing)) (p .1 .1 .1 .0)) in
@@ -191,8 +194,9 @@ module _ {rules : Rules} (count : (order olds : List ℕ) → length (rules .new
     next-agree (tidy s) ok (one, change) =
         agree-same d d (copy w) (copy w′) ledger (sound .agree)
         (λ k. elim (cases-eq k s) [
-          inl e ↦ ap (copy w′) e ∙ change .values ∙ ap (copy w) (sym e)
-        | inr other ↦ ap (λ x. x .values) (one-other s (w .stores) (w′ .stores) one k other) ])
+          | inl e ↦ ap (copy w′) e ∙ change .values ∙ ap (copy w) (sym e)
+          | inr other ↦ ap (λ x. x .values) (one-other s (w .stores) (w′ .stores) one k other)
+        ])
         (same-owing m d)
     next-agree (read s list buffer) ok same = quiet d same (same-owing m d)
 
@@ -222,11 +226,12 @@ module _ {rules : Rules} (count : (order olds : List ℕ) → length (rules .new
     -- the new entry owes nothing at k, and elsewhere what the old one owed
     owes-less : (u : ℕ) (y : Standing) (k : ℕ) (x : Status) → is-promised x ≡ false → (s : ℕ) → owes rules s (moved (d u) y k x) ≤ owes rules s (d u)
     owes-less u y k x idle s = elim (cases-eq s k) [
-        inl e ↦
+      | inl e ↦
           let none : owes rules s (moved (d u) y k x) ≡ 0 =
-              ap (λ j. owes rules j (moved (d u) y k x)) e ∙ owes-moved-here rules (d u) y k x ∙ cond-false (is-promised x) (writes rules (d u)) 0 idle in
+          ap (λ j. owes rules j (moved (d u) y k x)) e ∙ owes-moved-here rules (d u) y k x ∙ cond-false (is-promised x) (writes rules (d u)) 0 idle in
           le-from-zero (owes rules s (moved (d u) y k x)) (owes rules s (d u)) none
-      | inr other ↦ le-from-same (owes rules s (moved (d u) y k x)) (owes rules s (d u)) (owes-moved-other rules (d u) y k x s other) ]
+      | inr other ↦ le-from-same (owes rules s (moved (d u) y k x)) (owes rules s (d u)) (owes-moved-other rules (d u) y k x s other)
+    ]
       where
         le-from-zero : (a b : ℕ) → a ≡ 0 → a ≤ b
         le-from-zero a b e = omega arith
@@ -249,10 +254,11 @@ module _ {rules : Rules} (count : (order olds : List ℕ) → length (rules .new
     heavier u k below same checked s within =
         covered-at rules d u (moved (d u) (d u .standing) k Promised) s (room w s) (room w′ s) below (sound .rooms s within)
         (elim (cases-eq s k) [
-          inl e ↦
-            let owes-here : owes rules s (moved (d u) (d u .standing) k Promised) ≡ writes rules (d u) = ap (λ j. owes rules j (moved (d u) (d u .standing) k Promised)) e ∙ owes-moved-here rules (d u) (d u .standing) k Promised in
-            inr (fits (owed rules d s) (owed rules d k) (owes rules s (moved (d u) (d u .standing) k Promised)) (writes rules (d u)) (room w k) (room w s) (room w′ s) (ltb-false (room w k) (owed rules d k + writes rules (d u)) checked) (ap (owed rules d) e) owes-here (ap (room w) e) (room-stays same s))
-        | inr other ↦ inl (add (owes rules s (moved (d u) (d u .standing) k Promised)) (owes rules s (d u)) (room w s) (room w′ s) (owes-moved-other rules (d u) (d u .standing) k Promised s other) (room-stays same s)) ])
+          | inl e ↦
+              let owes-here : owes rules s (moved (d u) (d u .standing) k Promised) ≡ writes rules (d u) = ap (λ j. owes rules j (moved (d u) (d u .standing) k Promised)) e ∙ owes-moved-here rules (d u) (d u .standing) k Promised in
+              inr (fits (owed rules d s) (owed rules d k) (owes rules s (moved (d u) (d u .standing) k Promised)) (writes rules (d u)) (room w k) (room w s) (room w′ s) (ltb-false (room w k) (owed rules d k + writes rules (d u)) checked) (ap (owed rules d) e) owes-here (ap (room w) e) (room-stays same s))
+          | inr other ↦ inl (add (owes rules s (moved (d u) (d u .standing) k Promised)) (owes rules s (d u)) (room w s) (room w′ s) (owes-moved-other rules (d u) (d u .standing) k Promised s other) (room-stays same s))
+        ])
       where
         fits : (a a′ o o′ r q q′ : ℕ) → a′ + o′ ≤ r → a ≡ a′ → o ≡ o′ → q ≡ r → q′ ≡ q → a + o ≤ q′
         fits a a′ o o′ r q q′ le e e′ f f′ = omega arith
@@ -265,12 +271,13 @@ module _ {rules : Rules} (count : (order olds : List ℕ) → length (rules .new
     carried-out u y k below promised (one, change) s within =
         covered-at rules d u (moved (d u) y k Applied) s (room w s) (room w′ s) below (sound .rooms s within)
         (inl (elim (cases-eq s k) [
-          inl e ↦
-            let none : owes rules s (moved (d u) y k Applied) ≡ 0 = ap (λ j. owes rules j (moved (d u) y k Applied)) e ∙ owes-moved-here rules (d u) y k Applied in
-            let all : owes rules s (d u) ≡ writes rules (d u) = ap (λ j. owes rules j (d u)) e ∙ ap (λ st. cond (is-promised st) (writes rules (d u)) 0) promised in
-            fall (owes rules s (moved (d u) y k Applied)) (owes rules s (d u)) (writes rules (d u)) (room w k) (room w′ k) (room w s) (room w′ s) none all (change .falls) (ap (room w) e) (ap (room w′) e)
-        | inr other ↦
-            stay (owes rules s (moved (d u) y k Applied)) (owes rules s (d u)) (room w s) (room w′ s) (owes-moved-other rules (d u) y k Applied s other) (ap (λ x. x .room) (one-other k (w .stores) (w′ .stores) one s other)) ]))
+          | inl e ↦
+              let none : owes rules s (moved (d u) y k Applied) ≡ 0 = ap (λ j. owes rules j (moved (d u) y k Applied)) e ∙ owes-moved-here rules (d u) y k Applied in
+              let all : owes rules s (d u) ≡ writes rules (d u) = ap (λ j. owes rules j (d u)) e ∙ ap (λ st. cond (is-promised st) (writes rules (d u)) 0) promised in
+              fall (owes rules s (moved (d u) y k Applied)) (owes rules s (d u)) (writes rules (d u)) (room w k) (room w′ k) (room w s) (room w′ s) none all (change .falls) (ap (room w) e) (ap (room w′) e)
+          | inr other ↦
+              stay (owes rules s (moved (d u) y k Applied)) (owes rules s (d u)) (room w s) (room w′ s) (owes-moved-other rules (d u) y k Applied s other) (ap (λ x. x .room) (one-other k (w .stores) (w′ .stores) one s other))
+        ]))
       where
         fall : (a b v r r′ q q′ : ℕ) → a ≡ 0 → b ≡ v → r ≤ r′ + v → q ≡ r → q′ ≡ r′ → a + q ≤ b + q′
         fall a b v r r′ q q′ e e′ le f f′ = omega arith
@@ -323,8 +330,9 @@ module _ {rules : Rules} (count : (order olds : List ℕ) → length (rules .new
     next-rooms (down s) ok same = same-rooms same
     next-rooms (up s) ok same = λ k within. subst (λ (o : ℕ). o ≤ room w′ k) (sym (owed-raised rules d s k)) (same-rooms same k within)
     next-rooms (tidy s) ok change = λ k within. elim (cases-eq k s) [
-        inl e ↦ grown (owed rules d k) (room w s) (store-at (w .stores) s .floor) (room w′ s) (room w k) (room w′ k) (sound .rooms k within) (ap (room w) e) (ap (room w′) e) (change .1 .room)
-      | inr other ↦ subst (λ (r : ℕ). owed rules d k ≤ r) (sym (ap (λ x. x .room) (one-other s (w .stores) (w′ .stores) (change .0) k other))) (sound .rooms k within) ]
+      | inl e ↦ grown (owed rules d k) (room w s) (store-at (w .stores) s .floor) (room w′ s) (room w k) (room w′ k) (sound .rooms k within) (ap (room w) e) (ap (room w′) e) (change .1 .room)
+      | inr other ↦ subst (λ (r : ℕ). owed rules d k ≤ r) (sym (ap (λ x. x .room) (one-other s (w .stores) (w′ .stores) (change .0) k other))) (sound .rooms k within)
+    ]
       where
         grown : (o r f r′ q q′ : ℕ) → o ≤ q → q ≡ r → q′ ≡ r′ → max r f ≤ r′ → o ≤ q′
         grown o r f r′ q q′ le e e′ m′ = omega arith
@@ -342,11 +350,11 @@ module _ {rules : Rules} (count : (order olds : List ℕ) → length (rules .new
           agrees = docket ∙ ap (docket-after call) (sound .agrees) ∙ sym (cond-true (accepted event) (docket-after call (docket-of history)) (docket-of history) yes);
           orderly = subst (Orderly m n) (sym docket) (next-orderly call ok);
           starts = subst (λ (d′ : Docket). Starts d′ (λ t. last-start t (event ∷ history))) (sym docket)
-            (λ t now.
+              (λ t now.
               let s = next-starts call ok t now in
               let same : last-start t (event ∷ history) ≡ start-of t call (orders t) = cond-true (accepted event) (start-of t call (orders t)) (orders t) yes in
               (s .0 ∙ ap (λ o. o .0) (sym same), s .1 ∙ ap (λ o. o .1) (sym same)));
           agree = subst (λ (l : List ℕ). Agree rules m n (w′ .docket) (copy w′) l) (sym (cond-true (accepted event) (ledger-after rules call orders ledger) ledger yes))
-            (subst (λ (d′ : Docket). Agree rules m n d′ (copy w′) (ledger-after rules call orders ledger)) (sym docket) (next-agree call ok (done .stores)));
+              (subst (λ (d′ : Docket). Agree rules m n d′ (copy w′) (ledger-after rules call orders ledger)) (sym docket) (next-agree call ok (done .stores)));
           rooms = subst (λ (d′ : Docket). (s : ℕ) → s < m → owed rules d′ s ≤ room w′ s) (sym docket) (next-rooms call ok (done .stores));
         }

@@ -49,7 +49,7 @@ picked-replaced least values (x ∷ list) (v ∷ news) up below long =
     let apart : listed x list ≡ false = not-listed-below (suc x) list x (ups .1) (omega arith) in
     let head : getD (replaced (set values x v) list news) x 0 ≡ v = replaced-other (set values x v) list news x apart ∙ getD-set-same values x v 0 inside in
     let rest : picked (replaced (set values x v) list news) list ≡ news =
-        picked-replaced (suc x) (set values x v) list news (ups .1) (subst (λ (n : ℕ). all-below n list ≡ true) (sym (length-set values x v)) (belows .1)) (omega arith) in
+    picked-replaced (suc x) (set values x v) list news (ups .1) (subst (λ (n : ℕ). all-below n list ≡ true) (sym (length-set values x v)) (belows .1)) (omega arith) in
     ap (λ y. y ∷ picked (replaced (set values x v) list news) list) head ∙ ap (λ ys. v ∷ ys) rest
 
 pub length-picked : (values list : List ℕ) → length (picked values list) ≡ length list
@@ -68,21 +68,23 @@ pub same-picked : (xs ys list : List ℕ) (o : ℕ) → picked xs list ≡ picke
 same-picked xs ys [] o same in-list = absurd (true≢false (sym in-list))
 same-picked xs ys (x ∷ list) o same in-list =
     elim (or-cases (eqb o x) (listed o list) in-list) [
-      inl here ↦
-        let e : o ≡ x = eqb-true o x here in
-        let head : getD xs x 0 ≡ getD ys x 0 = cc in
-        ap (λ k. getD xs k 0) e ∙ head ∙ ap (λ k. getD ys k 0) (sym e)
-    | inr there ↦
-        let rest : picked xs list ≡ picked ys list = cc in
-        same-picked xs ys list o rest there ]
+      | inl here ↦
+          let e : o ≡ x = eqb-true o x here in
+          let head : getD xs x 0 ≡ getD ys x 0 = cc in
+          ap (λ k. getD xs k 0) e ∙ head ∙ ap (λ k. getD ys k 0) (sym e)
+      | inr there ↦
+          let rest : picked xs list ≡ picked ys list = cc in
+          same-picked xs ys list o rest there
+    ]
 
 pub listed-below : (n : ℕ) (list : List ℕ) (o : ℕ) → all-below n list ≡ true → listed o list ≡ true → o < n
 listed-below n [] o below in-list = absurd (true≢false (sym in-list))
 listed-below n (x ∷ list) o below in-list =
     let belows = and-parts (ltb x n) (all-below n list) below in
     elim (or-cases (eqb o x) (listed o list) in-list) [
-      inl here ↦ subst (λ (k : ℕ). k < n) (sym (eqb-true o x here)) (ltb-true x n (belows .0))
-    | inr there ↦ listed-below n list o (belows .1) there ]
+      | inl here ↦ subst (λ (k : ℕ). k < n) (sym (eqb-true o x here)) (ltb-true x n (belows .0))
+      | inr there ↦ listed-below n list o (belows .1) there
+    ]
 
 -- lists that do not overlap have no object in common
 pub overlap-none : (xs ys : List ℕ) (o : ℕ) → overlap xs ys ≡ false → listed o xs ≡ true → listed o ys ≡ true → ⊥
@@ -90,5 +92,6 @@ overlap-none [] ys o none in-xs in-ys = true≢false (sym in-xs)
 overlap-none (x ∷ xs) ys o none in-xs in-ys =
     let parts = or-parts (listed x ys) (overlap xs ys) none in
     elim (or-cases (eqb o x) (listed o xs) in-xs) [
-      inl here ↦ both-ways (listed o ys) (ap (λ k. listed k ys) (eqb-true o x here) ∙ parts .0) in-ys
-    | inr there ↦ overlap-none xs ys o (parts .1) there in-ys ]
+      | inl here ↦ both-ways (listed o ys) (ap (λ k. listed k ys) (eqb-true o x here) ∙ parts .0) in-ys
+      | inr there ↦ overlap-none xs ys o (parts .1) there in-ys
+    ]

@@ -1,10 +1,12 @@
 pub mod Calls
 pub mod Checks
 pub mod Docket
+pub mod Examples
 pub mod Histories
 pub mod OneCopy
 pub mod Opening
 pub mod Orders
+pub mod Playing
 pub mod Questions
 pub mod Statuses
 pub mod Steps

@@ -28,21 +28,21 @@ pub record OneCopy (rules : Rules) (opening : List ℕ) (history : History) (w :
   pub agrees : w .docket ≡ docket-of history
   -- every accepted read, at whichever machine, gave the ledger's values of its moment, object by object
   pub reads : (later earlier : History) (event : Event) (s : ℕ) (list : List ℕ) (buffer : ℕ)
-    → history ≡ later ++ (event ∷ earlier) → event .call ≡ read s list buffer → event .number ≡ 0
-    → event .values ≡ picked (ledger-of rules opening earlier) list
+      → history ≡ later ++ (event ∷ earlier) → event .call ≡ read s list buffer → event .number ≡ 0
+      → event .values ≡ picked (ledger-of rules opening earlier) list
   -- every copy has the ledger's value, unless a committed transaction holds the object there
   pub copies : (s o : ℕ) → s < machines w → o < objects w
-    → ((t : ℕ) → Owing (docket-of history t) s → listed o (docket-of history t .objects) ≡ true → ⊥)
-    → getD (copy w s) o 0 ≡ getD (ledger-of rules opening history) o 0
+      → ((t : ℕ) → Owing (docket-of history t) s → listed o (docket-of history t .objects) ≡ true → ⊥)
+      → getD (copy w s) o 0 ≡ getD (ledger-of rules opening history) o 0
   -- and then the ledger's values on that transaction's list are what its order makes of the copy's
   pub owing : (t s : ℕ) → s < machines w → Owing (docket-of history t) s
-    → picked (ledger-of rules opening history) (docket-of history t .objects)
+      → picked (ledger-of rules opening history) (docket-of history t .objects)
       ≡ rules .news (docket-of history t .order) (picked (copy w s) (docket-of history t .objects))
   -- in one life no transaction is applied at one machine and dropped at another, be it at different times
   pub atomic : (later middle earlier : History) (t s s′ : ℕ)
-    → history ≡ later ++ (middle ++ earlier) → one-life t middle ≡ true
-    → ((docket-of (middle ++ earlier) t .status s ≡ Applied → docket-of earlier t .status s′ ≡ Dropped → ⊥)
-       × (docket-of (middle ++ earlier) t .status s ≡ Dropped → docket-of earlier t .status s′ ≡ Applied → ⊥))
+      → history ≡ later ++ (middle ++ earlier) → one-life t middle ≡ true
+      → ((docket-of (middle ++ earlier) t .status s ≡ Applied → docket-of earlier t .status s′ ≡ Dropped → ⊥)
+      × (docket-of (middle ++ earlier) t .status s ≡ Dropped → docket-of earlier t .status s′ ≡ Applied → ⊥))
   -- no write of a promised transaction ever finds a store full
   pub rooms : (s : ℕ) → s < machines w → owed rules (docket-of history) s ≤ room w s
 
@@ -50,7 +50,7 @@ pub record OneCopy (rules : Rules) (opening : List ℕ) (history : History) (w :
 pub record Lawful (rules : Rules) (stores : List StoreState) (history : History) (w : World) : Type 0 where
   pub kept : opening-number stores ≡ 0 → OneCopy rules (store-at stores 0 .values) history w
   pub refused : (opening-number stores ≡ 0 → ⊥) → (later earlier : History) (event : Event)
-    → history ≡ later ++ (event ∷ earlier) → event .number ≡ opening-number stores
+      → history ≡ later ++ (event ∷ earlier) → event .number ≡ opening-number stores
 
 -- for every rulebook of this meaning, any stores, and any calls
 abbrev pub OneCopyLaw : Type 0
