@@ -40,12 +40,16 @@ ten-over = 0 ∷ 1 ∷ 10 ∷ 0 ∷ 0 ∷ 0 ∷ []
 abbrev pub ten-to-itself : List ℕ
 ten-to-itself = 0 ∷ 0 ∷ 10 ∷ 0 ∷ 0 ∷ 0 ∷ []
 
+-- the transaction of the example over two machines
+abbrev pub change : ℕ
+change = 4
+
 -- a change at two machines: a reader sees the old values, is told that they are held, or sees the new ones
 abbrev pub two-machines : Example
 two-machines = (
   over assignment-rules 2 (5 ∷ 7 ∷ 9 ∷ []) (
-      start 4 0 (0 ∷ 2 ∷ []) (ten-more 1) ∷ issue 4 ∷ read 1 (0 ∷ 2 ∷ []) 8 ∷ read 0 (2 ∷ []) 8 ∷ begin 4 1 ∷ promise 4 1
-      ∷ commit 4 ∷ read 0 (2 ∷ []) 8 ∷ read 1 (2 ∷ []) 8 ∷ apply 4 1 ∷ read 1 (0 ∷ 2 ∷ []) 8 ∷ clear 4 ∷ []),
+      start change 0 (0 ∷ 2 ∷ []) (ten-more 1) ∷ issue change ∷ read 1 (0 ∷ 2 ∷ []) 8 ∷ read 0 (2 ∷ []) 8 ∷ begin change 1 ∷ promise change 1
+      ∷ commit change ∷ read 0 (2 ∷ []) 8 ∷ read 1 (2 ∷ []) 8 ∷ apply change 1 ∷ read 1 (0 ∷ 2 ∷ []) 8 ∷ clear change ∷ []),
   (0 ∷ []) ∷ (0 ∷ []) ∷ (0 ∷ 5 ∷ 9 ∷ []) ∷ (8 ∷ []) ∷ (0 ∷ []) ∷ (0 ∷ [])
       ∷ (0 ∷ []) ∷ (0 ∷ 19 ∷ []) ∷ (8 ∷ []) ∷ (0 ∷ []) ∷ (0 ∷ 5 ∷ 19 ∷ []) ∷ (0 ∷ []) ∷ [],
 )
