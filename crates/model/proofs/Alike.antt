@@ -2,7 +2,7 @@
 use mathlib.Core.Path.{_≡_, subst}
 use mathlib.Core.Bool.{true}
 use mathlib.Core.List.{List, [], _∷_}
-use Prim.Native.Nat.{ℕ, _<_, _≤_}
+use Prim.Native.Nat.{ℕ, _<_, _≤_, min}
 use native.Mathlib.Omega.{arith}
 use lib.ListN.{length}
 use Rattle.std.proofs.shelf.Lists.{ext-getD}
@@ -20,6 +20,15 @@ module _ (stores : List StoreState) (well : opening-number stores ≡ 0) where
   some-machine =
       let low : 1 ≤ place-count stores = ltb-false (place-count stores) 1 (or-parts _ _ (first-passes (wrong-machine-count stores) (wrong-object-counts stores ∷ copies-differ stores ∷ []) (λ e. omega arith) well .0) .0) in
       omega arith
+
+  -- none is left out
+  pub all-machines : min 8 (place-count stores) ≡ place-count stores
+  all-machines =
+      let high : place-count stores ≤ 8 = ltb-false 8 (place-count stores) (or-parts _ _ (first-passes (wrong-machine-count stores) (wrong-object-counts stores ∷ copies-differ stores ∷ []) (λ e. omega arith) well .0) .1) in
+      small (place-count stores) high
+    where
+      small : (k : ℕ) → k ≤ 8 → min 8 k ≡ k
+      small k le = omega arith
 
   counts-agree : all-to (place-count stores) (same-counts stores) ≡ true
   counts-agree = not-false _ (or-parts _ _ (first-passes (wrong-object-counts stores) (copies-differ stores ∷ []) (λ e. omega arith) after-machines .0) .1)

@@ -18,7 +18,7 @@ use Rattle.model.specs.Orders.{owed, transactions}
 use Rattle.model.specs.Steps.{Event, Step, docket-after}
 use Rattle.model.specs.World.{World, machines, copy, room}
 use Rattle.model.proofs.Agreeing.{Agree}
-use Rattle.model.proofs.Alike.{alike, some-machine}
+use Rattle.model.proofs.Alike.{alike, some-machine, all-machines}
 use Rattle.model.proofs.Counts.{sum-zero}
 use Rattle.model.proofs.Orderly.{Orderly, orderly-blank}
 use Rattle.model.proofs.Passed.{well-answer}
@@ -31,7 +31,7 @@ absent-open e = let z : _≡_ {A = ℕ} 0 1 = cc in omega arith
 pub sound-opened : (rules : Rules) (stores : List StoreState) → opening-number stores ≡ 0 → Sound rules (store-at stores 0 .values) (place-count stores) (length (store-at stores 0 .values)) [] (opened stores)
 sound-opened rules stores well = record {
   well = well;
-  counted = refl;
+  counted = all-machines stores well;
   agrees = refl;
   orderly = orderly-blank (place-count stores) (length (store-at stores 0 .values));
   starts = λ t used. absurd (used refl);

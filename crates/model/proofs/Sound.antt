@@ -200,21 +200,24 @@ module _ {rules : Rules} (count : (order olds : List ℕ) → length (rules .new
         (same-owing m d)
     next-agree (read s list buffer) ok same = quiet d same (same-owing m d)
 
+    places-kept : (call : Call) → StoresAfter rules call d (w .stores) (w′ .stores) → place-count (w′ .stores) ≡ place-count (w .stores)
+    places-kept (start u s list order) same = ap place-count same
+    places-kept (issue u) same = ap place-count same
+    places-kept (begin u s) same = ap place-count same
+    places-kept (promise u s) same = ap place-count same
+    places-kept (decline u s) same = ap place-count same
+    places-kept (commit u) change = one-count (d u .coordinator) (w .stores) (w′ .stores) (change .0)
+    places-kept (abort u) same = ap place-count same
+    places-kept (apply u s) change = one-count s (w .stores) (w′ .stores) (change .0)
+    places-kept (drop u s) same = ap place-count same
+    places-kept (clear u) same = ap place-count same
+    places-kept (down s) same = ap place-count same
+    places-kept (up s) same = ap place-count same
+    places-kept (tidy s) change = one-count s (w .stores) (w′ .stores) (change .0)
+    places-kept (read s list buffer) same = ap place-count same
+
     next-count : (call : Call) → StoresAfter rules call d (w .stores) (w′ .stores) → machines w′ ≡ machines w
-    next-count (start u s list order) same = ap place-count same
-    next-count (issue u) same = ap place-count same
-    next-count (begin u s) same = ap place-count same
-    next-count (promise u s) same = ap place-count same
-    next-count (decline u s) same = ap place-count same
-    next-count (commit u) change = one-count (d u .coordinator) (w .stores) (w′ .stores) (change .0)
-    next-count (abort u) same = ap place-count same
-    next-count (apply u s) change = one-count s (w .stores) (w′ .stores) (change .0)
-    next-count (drop u s) same = ap place-count same
-    next-count (clear u) same = ap place-count same
-    next-count (down s) same = ap place-count same
-    next-count (up s) same = ap place-count same
-    next-count (tidy s) change = one-count s (w .stores) (w′ .stores) (change .0)
-    next-count (read s list buffer) same = ap place-count same
+    next-count call change = ap (min 8) (places-kept call change)
 
     -- the rooms, where no store is written
     room-stays : w′ .stores ≡ w .stores → (s : ℕ) → room w′ s ≡ room w s

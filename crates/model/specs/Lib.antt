@@ -10,4 +10,5 @@ pub mod Playing
 pub mod Questions
 pub mod Statuses
 pub mod Steps
+pub mod Turns
 pub mod World

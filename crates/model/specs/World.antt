@@ -1,7 +1,7 @@
 -- What a register means. Assumes nothing.
 use mathlib.Core.List.{List}
 use mathlib.Core.Bool.{Bool, false}
-use Prim.Native.Nat.{ℕ}
+use Prim.Native.Nat.{ℕ, min}
 use lib.ListN.{length, getD}
 use Rattle.stores.specs.Rows.{StoreState, place-count, store-at}
 use Rattle.model.specs.Docket.{Docket}
@@ -13,10 +13,11 @@ pub record World : Type 0 where
   pub up : List Bool
   pub stores : List StoreState
 
--- machine s has the store at place s, and its copy is that store's values
+-- machine s has the store at place s; a register has at most eight machines, and one over a longer row refuses every call
 abbrev pub machines : World → ℕ
-machines w = place-count (w .stores)
+machines w = min 8 (place-count (w .stores))
 
+-- the copy of machine s is the values of its store
 abbrev pub copy : World → ℕ → List ℕ
 copy w s = store-at (w .stores) s .values
 

@@ -8,6 +8,7 @@ pub mod statuses;
 
 pub use statuses::Standing;
 pub use statuses::Status;
+pub use statuses::Turn;
 
 // Carries the proof of the one-copy law: no order of calls, restarts and refusals breaks it.
 pub fn one_copy_is_kept()

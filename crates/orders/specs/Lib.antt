@@ -1,4 +1,5 @@
 pub mod Ascending
+pub mod Kept
 pub mod Lists
 pub mod Bytes
 pub mod Rulebooks

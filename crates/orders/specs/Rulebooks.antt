@@ -12,6 +12,9 @@ pub record Rules : Type 0 where
   pub mask : List ℕ → ℕ → List Bool
   pub news : List ℕ → List ℕ → List ℕ
 
+abbrev pub rules-of : (List ℕ → ℕ → Bool) → (List ℕ → ℕ → List Bool) → (List ℕ → List ℕ → List ℕ) → Rules
+rules-of lawful mask news = record { lawful = lawful; mask = mask; news = news }
+
 -- what every rulebook keeps
 pub record RulebookLaws (lawful : List ℕ → ℕ → Bool) (mask : List ℕ → ℕ → List Bool) (news : List ℕ → List ℕ → List ℕ) : Type 0 where
   -- the mask says of each position whether it is written, and no position past them is

@@ -5,6 +5,8 @@ mod clauses;
 pub mod faults;
 pub mod list;
 mod movement;
+pub mod order;
+mod padding;
 pub mod rulebook;
 pub mod transfer;
 
@@ -12,6 +14,7 @@ pub use assignment::Assignment;
 pub use assignment::AssignmentRulebook;
 pub use faults::ListFault;
 pub use list::ObjectList;
+pub use order::Order;
 pub use rulebook::Rulebook;
 pub use transfer::Transfer;
 pub use transfer::TransferRulebook;

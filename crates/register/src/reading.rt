@@ -27,7 +27,7 @@ impl<R: Row> Register<R> {
         if let Some(refusal) = self.refusal {
             return Err(refusal);
         }
-        if machine >= self.row.count() {
+        if machine >= self.row.count().min(8) {
             return Err(Refusal::NoSuchMachine);
         }
         Ok(())

@@ -2,13 +2,14 @@
 ghost use mathlib.Core.Path.{_≡_};
 ghost use mathlib.Core.Bool.{true};
 ghost use Prim.Native.Nat.{_≤_};
-ghost use lib.ListN.{length, take};
+ghost use lib.ListN.{length};
 ghost use Rattle.std.specs.declared.option.Option.the-variants.{Some, None};
 ghost use Rattle.std.specs.Results.{Cases};
 ghost use Rattle.orders.specs.Ascending.{ascending, ascends-from};
 ghost use Rattle.orders.specs.Lists.{all-below, list-fault, objects-of};
 use crate::faults::ListFault;
 use crate::list::ObjectList;
+use crate::padding::padded;
 
 impl ObjectList {
     // The list as it stands, where it is lawful over `object_count` objects; else the first fault.
@@ -37,18 +38,6 @@ impl ObjectList {
     {
         &self.objects[0..self.count]
     }
-}
-
-// The first `list.len()` bytes are the list.
-fn padded(list: &[u8]) -> [u8; 8]
-    requires { ⌜ length (now list) ≤ 8 ⌝ }
-    ensures { λ r. ⌜ take (length (now (list .entry))) r ≡ now (list .entry) ⌝ }
-{
-    let mut objects = [0; 8];
-    for (i, object) in list.iter().enumerate() {
-        objects[i] = *object;
-    }
-    objects
 }
 
 fn all_are_below(list: &[u8], object_count: usize) -> bool

@@ -1,0 +1,4 @@
+pub mod Found
+pub mod RaisedTo
+pub mod Summed
+pub mod Tabled
