@@ -1,4 +1,0 @@
-pub mod Found
-pub mod RaisedTo
-pub mod Summed
-pub mod Tabled
