@@ -1,4 +1,6 @@
 // Lists a run file: its bytes come from standard input, and the listing goes to standard output.
+#![tactic(auto)]
+
 use anyhow::anyhow;
 use listings::list_file;
 use std::io::{Read, Write};

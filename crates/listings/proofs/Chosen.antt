@@ -1,15 +1,12 @@
 -- The row that a file is listed over. Assumes nothing.
-use Rattle.std.proofs.Common.{◌≡◌, ℕ, Bool, true, false, cond, not, eqb, List, [], IfOk, Some, Ok, Err, Option, Result, sym, refl, ap, ◌∙◌, subst, arith}
+use Rattle.std.proofs.Common.{◌≡◌, ℕ, true, not, eqb, List, [], IfOk, Some, Ok, Err, Result, sym, refl, ap, ◌∙◌, subst, arith}
 use Rattle.std.proofs.lemmas.Result.{IfOk-weaker}
 use Rattle.std.proofs.lemmas.Bool.{cond-true, cond-false, ne_eqb, not_from_false}
-use Rattle.stores.specs.Mixed.{fresh_stores}
-use Rattle.stores.specs.Rows.{StoreState, place_count}
+use Rattle.stores.specs.Rows.{StoreState}
 use Rattle.model.specs.Opening.{opened}
-use Rattle.register.specs.declared.outcomes.Outcome.{Outcome}
-use Rattle.runfile.specs.HeaderFormat.{header_of, machine_count, object_count, fault}
+use Rattle.runfile.specs.HeaderFormat.{header_of, machine_count, object_count}
 use Rattle.runfile.specs.declared.faults.HeaderFault.{HeaderFault}
 use Rattle.runfile.specs.declared.faults.HeaderFaultKind.TheVariants.{RowDiffers}
-use Rattle.runfile.specs.declared.faults.RunFault.{RunFault}
 use Rattle.runfile.specs.declared.faults.RunFault.TheVariants.{Header as HeaderBroken}
 use Rattle.runfile.specs.declared.header.Header.{Header}
 use Rattle.runfile.proofs.SoundHeader.{sound_at_ok}

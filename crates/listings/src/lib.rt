@@ -1,4 +1,6 @@
 // The listing of a run: its text, line by line.
+#![tactic(auto)]
+
 pub mod listed;
 pub mod text;
 

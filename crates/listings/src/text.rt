@@ -76,7 +76,7 @@ fn values_of(outcome: &Outcome) -> &[u32]
 
 // A `String` refuses text only for want of memory, so that is what the formatter's error means here.
 fn append<D: fmt::Display + Drop>(text: &mut String, value: D) -> Result<(), AllocError>
-    ensures { OnOk result (IfSome (output value) (λ bytes. string_bytes text.new ≡ string_bytes text.old ++ bytes)) }
+    ensures { OnOk result (IfSome (D.output value) (λ bytes. string_bytes text.new ≡ string_bytes text.old ++ bytes)) }
 {
     match text.write(value) {
         Ok(()) => Ok(()),

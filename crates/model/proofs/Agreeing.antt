@@ -1,18 +1,16 @@
 -- Copies and ledger: they agree but where a committed transaction is not carried out yet. Assumes nothing.
-use Rattle.std.proofs.Common.{◌≡◌, ℕ, ◌<◌, Bool, true, false, ◌≢◌, ◌⊎◌, List, length, get_or, sym, refl, ap, ◌∙◌, subst, inl, inr, arith}
-use Rattle.std.proofs.lemmas.Bool.{cases_eq, cases_Bool, both_ways, false≢true}
+use Rattle.std.proofs.Common.{◌≡◌, ℕ, ◌<◌, true, false, ◌≢◌, List, length, get_or, sym, refl, ap, ◌∙◌, subst, inl, inr, arith}
+use Rattle.std.proofs.lemmas.Bool.{cases_eq, cases_Bool, both_ways}
 use Rattle.orders.specs.Lists.{all_below}
 use Rattle.orders.specs.Rulebooks.{Rules}
-use Rattle.model.specs.declared.statuses.Standing.{Standing}
-use Rattle.model.specs.declared.statuses.Standing.TheVariants.{Absent, Pending as Undecided, Committed, Aborted}
-use Rattle.model.specs.declared.statuses.Status.{Status}
-use Rattle.model.specs.declared.statuses.Status.TheVariants.{None, Pending, Promised, Applied, Dropped}
+use Rattle.model.specs.declared.statuses.Standing.TheVariants.{Absent, Pending as Undecided, Committed}
+use Rattle.model.specs.declared.statuses.Status.TheVariants.{Promised, Applied}
 use Rattle.model.specs.Docket.{Entry, Docket, at, moved, raised}
 use Rattle.model.specs.OneCopy.{Owing}
-use Rattle.model.specs.Orders.{picked, replaced, renewed, listed}
+use Rattle.model.specs.Orders.{picked, renewed, listed}
 use Rattle.model.specs.Statuses.{is_holding, after_up}
 use Rattle.model.proofs.Changes.{at_same, at_other, at_cases}
-use Rattle.model.proofs.Courses.{Listing, Good, course_of}
+use Rattle.model.proofs.Courses.{Listing, course_of}
 use Rattle.model.proofs.Orderly.{Orderly, Holds, Apart}
 use Rattle.model.proofs.Values.{length_replaced, replaced_other, picked_replaced, length_picked, picked_same, same_picked, listed_below}
 

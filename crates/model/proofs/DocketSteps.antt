@@ -1,24 +1,24 @@
 -- Every accepted call keeps the docket in order. Assumes nothing.
-use Rattle.std.proofs.Common.{◌≡◌, ℕ, ◌<◌, ◌≤◌, Bool, true, false, not, ◌&&◌, eqb, ltb, ◌≢◌, ◌⊎◌, List, [], ◌∷◌, sym, refl, ap, ◌∙◌, subst, inl, inr, arith}
+use Rattle.std.proofs.Common.{◌≡◌, ℕ, ◌<◌, Bool, true, false, not, ltb, ◌≢◌, List, [], ◌∷◌, refl, ap, inl, inr, arith}
 use Rattle.std.proofs.lemmas.Bool.{ltb-true, ltb-false, eqb-false, not-false, false≢true, both_ways}
 use Rattle.orders.specs.Ascending.{ascending}
 use Rattle.orders.specs.Lists.{all_below}
 use Rattle.orders.specs.Rulebooks.{Rules}
 use Rattle.model.specs.declared.statuses.Standing.{Standing}
-use Rattle.model.specs.declared.statuses.Standing.TheVariants.{Absent, Pending as Undecided, Committed, Aborted}
+use Rattle.model.specs.declared.statuses.Standing.TheVariants.{Absent, Committed, Aborted}
 use Rattle.model.specs.declared.statuses.Status.{Status}
-use Rattle.model.specs.declared.statuses.Status.TheVariants.{None, Pending, Promised, Applied, Dropped}
+use Rattle.model.specs.declared.statuses.Status.TheVariants.{Pending, Promised, Applied, Dropped}
 use Rattle.model.specs.Calls.{Call, start, issue, begin, promise, decline, commit, abort, apply, drop, clear, down, up, tidy, read}
 use Rattle.model.specs.Checks.{first, checks, all_to, start_checks, issue_checks, begin_checks, promise_checks, decline_checks, commit_checks, abort_checks, apply_checks, drop_checks, clear_checks, no_such_machine, already_up}
-use Rattle.model.specs.Docket.{Entry, Docket, at, blank, moved, raised}
+use Rattle.model.specs.Docket.{Entry, Docket, at, blank, moved}
 use Rattle.model.specs.Orders.{transactions}
 use Rattle.model.specs.Statuses.{is_absent, is_undecided, is_committed, is_aborted, is_none, is_pending, is_promised, is_holding}
 use Rattle.model.specs.Steps.{docket_after, started}
 use Rattle.model.specs.World.{World, machines, objects}
 use Rattle.model.proofs.Counts.{all_to_each}
-use Rattle.model.proofs.Courses.{Listing, Good, good_blank, good_started, good_issue, good_begin, good_promise, good_decline, good_commit, good_abort, good_apply, good_drop}
+use Rattle.model.proofs.Courses.{Good, good_blank, good_started, good_issue, good_begin, good_promise, good_decline, good_commit, good_abort, good_apply, good_drop}
 use Rattle.model.proofs.Known.{undecided_known, committed_known, aborted_known, none_known, pending_known, promised_known}
-use Rattle.model.proofs.Orderly.{Orderly, Holds, Apart, Grows, orderly_at, orderly_raised, moved_grows, not_held}
+use Rattle.model.proofs.Orderly.{Orderly, Holds, Apart, orderly_at, orderly_raised, moved_grows, not_held}
 use Rattle.model.proofs.Passed.{Passed, passed}
 
 -- tests that were passed, as facts

@@ -1,6 +1,6 @@
 -- Applied and dropped are final until the transaction is cleared, and never both. Assumes nothing.
-use Rattle.std.proofs.Common.{◌≡◌, ℕ, ◌<◌, ◌≤◌, Bool, true, false, not, eqb, ◌≢◌, ◌⊎◌, List, [], ◌∷◌, sym, refl, ap, ◌∙◌, subst, inl, inr, arith}
-use Rattle.std.proofs.lemmas.Bool.{cases_eq, cases_lt, not-false, both_ways, eq-eqb}
+use Rattle.std.proofs.Common.{◌≡◌, ℕ, ◌<◌, false, not, eqb, ◌≢◌, sym, refl, ap, ◌∙◌, inl, inr, arith}
+use Rattle.std.proofs.lemmas.Bool.{cases_lt, not-false, both_ways, eq-eqb}
 use Rattle.orders.specs.Rulebooks.{Rules}
 use Rattle.model.specs.declared.statuses.Standing.{Standing}
 use Rattle.model.specs.declared.statuses.Standing.TheVariants.{Absent, Pending as Undecided, Committed, Aborted}
@@ -8,17 +8,16 @@ use Rattle.model.specs.declared.statuses.Status.{Status}
 use Rattle.model.specs.declared.statuses.Status.TheVariants.{None, Pending, Promised, Applied, Dropped}
 use Rattle.model.specs.Calls.{Call, start, issue, begin, promise, decline, commit, abort, apply, drop, clear, down, up, tidy, read}
 use Rattle.model.specs.Checks.{first, checks, start_checks, issue_checks, begin_checks, promise_checks, decline_checks, commit_checks, abort_checks, apply_checks, drop_checks}
-use Rattle.model.specs.Docket.{Entry, Docket, at, blank, moved, raised}
+use Rattle.model.specs.Docket.{Entry, Docket, at, blank, moved}
 use Rattle.model.specs.Histories.{clears}
 use Rattle.model.specs.Statuses.{is_absent, is_undecided, is_none, is_pending, is_promised, is_holding, after_up}
 use Rattle.model.specs.Steps.{docket_after, started}
 use Rattle.model.specs.World.{World, machines, objects}
-use Rattle.model.proofs.Changes.{at_same, at_other, at_cases}
+use Rattle.model.proofs.Changes.{at_other, at_cases}
 use Rattle.model.proofs.Courses.{Course, Good, course_of}
-use Rattle.model.proofs.DocketSteps.{all_promised}
 use Rattle.model.proofs.Known.{absent_known, undecided_known, none_known, pending_known, promised_known, holding_known}
 use Rattle.model.proofs.Orderly.{Orderly}
-use Rattle.model.proofs.Passed.{Passed, passed}
+use Rattle.model.proofs.Passed.{passed}
 
 -- a status that no call moves but a clearing
 pub record Final (x : Status) : Type 0 where

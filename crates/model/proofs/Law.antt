@@ -1,26 +1,26 @@
 -- The one_copy law. Assumes nothing.
-use Rattle.std.proofs.Common.{◌≡◌, ℕ, ◌<◌, ◌≤◌, Bool, true, false, not, ◌&&◌, ◌≢◌, List, [], ◌∷◌, ◌++◌, length, get_or, sym, refl, ap, ◌∙◌, subst, inl, inr}
+use Rattle.std.proofs.Common.{◌≡◌, ℕ, ◌<◌, ◌≤◌, true, false, not, ◌&&◌, List, [], ◌∷◌, ◌++◌, length, sym, refl, ap, ◌∙◌, subst, inl, inr}
 use Rattle.std.proofs.lemmas.Bool.{and_parts, and_cases, not-true, not-false, both_ways, cases_eq, eq-eqb, ne_eqb, cond-true, cond-false}
 use Rattle.stores.specs.Rows.{StoreState, place_count, store_at}
 use Rattle.orders.specs.Lists.{all_below}
 use Rattle.orders.specs.Rulebooks.{Rules}
 use Rattle.model.specs.declared.statuses.Status.{Status}
 use Rattle.model.specs.declared.statuses.Status.TheVariants.{Applied, Dropped}
-use Rattle.model.specs.Calls.{Call, read}
+use Rattle.model.specs.Calls.{read}
 use Rattle.model.specs.Checks.{first, checks, read_checks}
 use Rattle.model.specs.Docket.{Docket}
 use Rattle.model.specs.Histories.{History, Run, accepted, clears, docket_of, ledger_of, one_life}
-use Rattle.model.specs.OneCopy.{Owing, OneCopy, Lawful, OneCopyLaw}
+use Rattle.model.specs.OneCopy.{Owing, OneCopy, OneCopyLaw}
 use Rattle.model.specs.Opening.{opened, opening_number}
 use Rattle.model.specs.Orders.{picked, listed, owed}
-use Rattle.model.specs.Steps.{Event, Step, docket_after, values_of}
+use Rattle.model.specs.Steps.{Event, docket_after, values_of}
 use Rattle.model.specs.World.{World, machines, objects, copy, room}
 use Rattle.model.proofs.Alike.{some_machine}
 use Rattle.model.proofs.DocketSteps.{there}
 use Rattle.model.proofs.Final.{Final, applied_final, dropped_final, not_both, final_stays}
-use Rattle.model.proofs.Orderly.{Orderly, not_held}
+use Rattle.model.proofs.Orderly.{not_held}
 use Rattle.model.proofs.Passed.{passed, refused_answer}
-use Rattle.model.proofs.Runs.{sound_run, own_checks, Moment, moment_of, Until, until}
+use Rattle.model.proofs.Runs.{sound_run, own_checks, moment_of, until}
 use Rattle.model.proofs.Sound.{Sound, orderly_here}
 use Rattle.model.proofs.Values.{picked_same, listed_below}
 

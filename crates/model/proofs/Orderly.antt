@@ -1,24 +1,17 @@
 -- The docket as a whole: every entry is in order, and no two transactions hold one object at one machine.
 -- Assumes nothing.
-use Rattle.std.proofs.Common.{◌≡◌, ℕ, ◌<◌, ◌≤◌, Bool, true, false, not, ◌&&◌, eqb, ltb, ◌≢◌, ◌⊎◌, List, [], ◌∷◌, sym, refl, ap, ◌∙◌, subst, inl, inr, arith}
-use Rattle.std.proofs.lemmas.Bool.{cases_eq, cases_lt, cases_Bool, both_ways, and_cases, ltb-true, ltb-false, eqb-false, not-false, false≢true}
-use Rattle.orders.specs.Rulebooks.{Rules}
+use Rattle.std.proofs.Common.{◌≡◌, ℕ, ◌<◌, ◌≤◌, true, false, ◌&&◌, ◌≢◌, ◌⊎◌, List, sym, refl, ap, ◌∙◌, subst, inl, inr, arith}
+use Rattle.std.proofs.lemmas.Bool.{cases_lt, both_ways, and_cases, false≢true}
 use Rattle.model.specs.declared.statuses.Standing.{Standing}
-use Rattle.model.specs.declared.statuses.Standing.TheVariants.{Absent, Pending as Undecided, Committed, Aborted}
+use Rattle.model.specs.declared.statuses.Standing.TheVariants.{Absent}
 use Rattle.model.specs.declared.statuses.Status.{Status}
-use Rattle.model.specs.declared.statuses.Status.TheVariants.{None, Pending, Promised, Applied, Dropped}
-use Rattle.model.specs.Calls.{Call, start, issue, begin, promise, decline, commit, abort, apply, drop, clear, down, up, tidy, read}
-use Rattle.model.specs.Checks.{first, checks, all_to, start_checks, issue_checks, begin_checks, promise_checks, decline_checks, commit_checks, abort_checks, apply_checks, drop_checks, clear_checks, no_such_machine, already_up}
 use Rattle.model.specs.Docket.{Entry, Docket, at, blank, moved, raised}
 use Rattle.model.specs.Orders.{listed, overlap, held, transactions}
-use Rattle.model.specs.Statuses.{is_absent, is_undecided, is_committed, is_aborted, is_none, is_pending, is_promised, is_holding, after_up}
-use Rattle.model.specs.Steps.{docket_after, started}
-use Rattle.model.specs.World.{World, machines, objects}
-use Rattle.model.proofs.Changes.{at_same, at_other, at_cases}
-use Rattle.model.proofs.Counts.{any_to_none, all_to_each}
-use Rattle.model.proofs.Courses.{Course, Listing, Good, course_of, good_blank, good_started, good_issue, good_begin, good_promise, good_decline, good_commit, good_abort, good_apply, good_drop, good_raised}
-use Rattle.model.proofs.Known.{undecided_known, committed_known, aborted_known, none_known, pending_known, promised_known, holding_before_up}
-use Rattle.model.proofs.Passed.{Passed, passed}
+use Rattle.model.specs.Statuses.{is_holding, after_up}
+use Rattle.model.proofs.Changes.{at_other, at_cases}
+use Rattle.model.proofs.Counts.{any_to_none}
+use Rattle.model.proofs.Courses.{Good, course_of, good_blank, good_raised}
+use Rattle.model.proofs.Known.{holding_before_up}
 use Rattle.model.proofs.Values.{overlap_none}
 
 abbrev pub Holds : Entry → ℕ → Type 0

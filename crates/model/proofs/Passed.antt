@@ -1,5 +1,5 @@
 -- The checks that an accepted call has passed. Assumes nothing.
-use Rattle.std.proofs.Common.{◌≡◌, ℕ, Bool, true, false, cond, not, ◌&&◌, eqb, List, [], ◌∷◌, sym, refl, ap, ◌∙◌}
+use Rattle.std.proofs.Common.{◌≡◌, Bool, true, false, not, ◌&&◌, eqb, List, [], ◌∷◌}
 use Rattle.std.proofs.lemmas.Bool.{and_parts, not-true, eqb-false, eq-eqb, not_from_true, cond-false, ne_eqb, not_from_false, cond-true}
 use Rattle.orders.specs.Rulebooks.{Rules}
 use Rattle.model.specs.Calls.{Call}

@@ -1,16 +1,16 @@
 -- What is played is stepped. Assumes nothing.
-use Rattle.std.proofs.Common.{◌≡◌, ℕ, ◌+◌, ◌-◌, ◌<◌, ◌≤◌, max, true, false, cond, eqb, ◌≢◌, List, [], ◌∷◌, length, set, sym, refl, ap, ◌∙◌, subst, inl, inr, arith}
+use Rattle.std.proofs.Common.{◌≡◌, ℕ, ◌+◌, ◌-◌, ◌<◌, ◌≤◌, max, true, false, eqb, List, [], ◌∷◌, length, set, sym, refl, ap, ◌∙◌, subst, inl, inr, arith}
 use Rattle.std.proofs.lemmas.List.{get_or-set_same, get_or_past, set_past}
-use Rattle.std.proofs.lemmas.Bool.{cases_eq, cases_lt, cond-true, cond-false, eq-eqb, ne_eqb}
+use Rattle.std.proofs.lemmas.Bool.{cases_lt, cond-true, cond-false, eq-eqb, ne_eqb}
 use Rattle.stores.specs.Rows.{StoreState, TidyChange, no_store, store_at}
 use Rattle.orders.specs.Rulebooks.{Rules}
 use Rattle.model.specs.Calls.{Call, start, issue, begin, promise, decline, commit, abort, apply, drop, clear, down, up, tidy, read}
 use Rattle.model.specs.Checks.{answer}
 use Rattle.model.specs.Docket.{Entry, Docket}
 use Rattle.model.specs.Examples.{ExamplesHold}
-use Rattle.model.specs.Orders.{picked, replaced, renewed, writes}
-use Rattle.model.specs.Playing.{carried_out, tidied, stores_next, done, world_next, event_next, PlayedAsStepped}
-use Rattle.model.specs.Steps.{Event, Step, Done, OrderChange, OneStore, StoresAfter, values_of}
+use Rattle.model.specs.Orders.{picked, replaced, writes}
+use Rattle.model.specs.Playing.{carried_out, tidied, stores_next, done, event_next, PlayedAsStepped}
+use Rattle.model.specs.Steps.{Done, OrderChange, OneStore, StoresAfter, values_of}
 use Rattle.model.specs.World.{World}
 
 -- one store is set, or there is none to set

@@ -1,11 +1,10 @@
 -- The room of a machine covers the writes owed there. Assumes nothing.
-use Rattle.std.proofs.Common.{◌≡◌, ℕ, ◌+◌, ◌<◌, ◌≤◌, Bool, true, false, cond, ◌≢◌, ◌⊎◌, sym, refl, ap, ◌∙◌, subst, inl, inr, arith}
-use Rattle.std.proofs.lemmas.Bool.{cases_eq}
+use Rattle.std.proofs.Common.{◌≡◌, ℕ, ◌+◌, ◌<◌, ◌≤◌, cond, ◌≢◌, ◌⊎◌, sym, ap, ◌∙◌, inl, inr, arith}
 use Rattle.orders.specs.Rulebooks.{Rules}
 use Rattle.model.specs.declared.statuses.Standing.{Standing}
 use Rattle.model.specs.declared.statuses.Status.{Status}
 use Rattle.model.specs.Docket.{Entry, Docket, at, moved, raised}
-use Rattle.model.specs.Orders.{owes, owed, writes, sum_to, transactions}
+use Rattle.model.specs.Orders.{owes, owed, writes, transactions}
 use Rattle.model.specs.Statuses.{is_promised, after_up}
 use Rattle.model.proofs.Changes.{at_same, at_other, at_cases}
 use Rattle.model.proofs.Counts.{sum_change, sum_same}

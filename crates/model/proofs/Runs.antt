@@ -1,20 +1,20 @@
 -- Sound from the opening on, over any run. Assumes nothing.
-use Rattle.std.proofs.Common.{◌≡◌, ℕ, ◌<◌, ◌≤◌, true, false, cond, ◌≢◌, List, [], ◌∷◌, ◌++◌, length, get_or, sym, refl, ap, ◌∙◌, subst, inl, inr, arith}
+use Rattle.std.proofs.Common.{◌≡◌, ℕ, ◌≤◌, false, ◌≢◌, List, [], ◌∷◌, ◌++◌, length, get_or, sym, refl, ap, ◌∙◌, subst, inl, inr, arith}
 use Rattle.std.proofs.lemmas.Bool.{cases_eq, cond-false, ne_eqb}
 use Rattle.stores.specs.Rows.{StoreState, place_count, store_at}
 use Rattle.orders.specs.Rulebooks.{Rules}
 use Rattle.model.specs.declared.statuses.Standing.TheVariants.{Absent, Committed}
 use Rattle.model.specs.Checks.{first, checks}
-use Rattle.model.specs.Docket.{Docket, blank}
+use Rattle.model.specs.Docket.{blank}
 use Rattle.model.specs.Histories.{History, Run, accepted, docket_of, start_of, last_start, ledger_after, ledger_of}
 use Rattle.model.specs.Opening.{opened, opening_number}
 use Rattle.model.specs.Orders.{owed, transactions}
 use Rattle.model.specs.Steps.{Event, Step, docket_after}
-use Rattle.model.specs.World.{World, machines, copy, room}
+use Rattle.model.specs.World.{World, copy}
 use Rattle.model.proofs.Agreeing.{Agree}
 use Rattle.model.proofs.Alike.{alike, some_machine, all_machines}
 use Rattle.model.proofs.Counts.{sum_zero}
-use Rattle.model.proofs.Orderly.{Orderly, orderly_blank}
+use Rattle.model.proofs.Orderly.{orderly_blank}
 use Rattle.model.proofs.Passed.{well_answer}
 use Rattle.model.proofs.Sound.{Sound, sound_after}
 

@@ -1,30 +1,29 @@
 -- What every run keeps, call by call. Assumes nothing.
-use Rattle.std.proofs.Common.{◌≡◌, ℕ, ◌+◌, ◌<◌, ◌≤◌, min, max, Bool, true, false, cond, not, eqb, ltb, ◌≢◌, ◌⊎◌, List, [], ◌∷◌, length, get_or, set, sym, refl, ap, ◌∙◌, subst, inl, inr, arith, length-set}
+use Rattle.std.proofs.Common.{◌≡◌, ℕ, ◌+◌, ◌<◌, ◌≤◌, min, max, true, false, cond, not, eqb, ltb, ◌≢◌, List, ◌∷◌, length, set, sym, refl, ap, ◌∙◌, subst, inl, inr, arith, length-set}
 use Rattle.std.proofs.lemmas.List.{get_or-set_other}
-use Rattle.std.proofs.lemmas.Bool.{cases_eq, cond-true, cond-false, eq-eqb, ne_eqb, not-false, not-true, ltb-false, both_ways, false≢true}
-use Rattle.stores.specs.Rows.{StoreState, TidyChange, no_store, place_count, store_at}
+use Rattle.std.proofs.lemmas.Bool.{cases_eq, cond-true, cond-false, eq-eqb, ne_eqb, not-false, not-true, ltb-false, both_ways}
+use Rattle.stores.specs.Rows.{StoreState, no_store, place_count, store_at}
 use Rattle.orders.specs.Rulebooks.{Rules}
 use Rattle.model.specs.declared.statuses.Standing.{Standing}
 use Rattle.model.specs.declared.statuses.Standing.TheVariants.{Absent, Pending as Undecided, Committed, Aborted}
 use Rattle.model.specs.declared.statuses.Status.{Status}
-use Rattle.model.specs.declared.statuses.Status.TheVariants.{None, Pending, Promised, Applied, Dropped}
+use Rattle.model.specs.declared.statuses.Status.TheVariants.{Pending, Promised, Applied, Dropped}
 use Rattle.model.specs.Calls.{Call, start, issue, begin, promise, decline, commit, abort, apply, drop, clear, down, up, tidy, read}
-use Rattle.model.specs.Checks.{first, checks, all_to, answer, start_checks, issue_checks, begin_checks, promise_checks, decline_checks, commit_checks, abort_checks, apply_checks, drop_checks, clear_checks}
+use Rattle.model.specs.Checks.{first, checks, all_to, start_checks, issue_checks, begin_checks, promise_checks, decline_checks, commit_checks, abort_checks, apply_checks, drop_checks, clear_checks}
 use Rattle.model.specs.Docket.{Entry, Docket, at, blank, moved, raised}
 use Rattle.model.specs.Histories.{History, Order, accepted, docket_of, start_of, last_start, ledger_after, ledger_of}
 use Rattle.model.specs.OneCopy.{Owing}
 use Rattle.model.specs.Orders.{renewed, owes, owed, writes, transactions}
-use Rattle.model.specs.Statuses.{is_absent, is_undecided, is_committed, is_aborted, is_none, is_pending, is_promised, is_holding}
-use Rattle.model.specs.Steps.{Event, Step, Done, OrderChange, OneStore, StoresAfter, docket_after, started}
+use Rattle.model.specs.Statuses.{is_absent, is_undecided, is_committed, is_aborted, is_promised, is_holding}
+use Rattle.model.specs.Steps.{Event, Done, OrderChange, OneStore, StoresAfter, docket_after, started}
 use Rattle.model.specs.World.{World, machines, objects, copy, room}
 use Rattle.model.proofs.Agreeing.{Agree, SameOwing, same_owing, quiet_at, same_raised, agree_same, agree_commit, agree_apply}
-use Rattle.model.proofs.Changes.{at_same, at_other, at_cases}
+use Rattle.model.proofs.Changes.{at_cases}
 use Rattle.model.proofs.Counts.{all_to_each}
-use Rattle.model.proofs.Courses.{Listing, Good, course_of}
 use Rattle.model.proofs.DocketSteps.{all_promised, docket_step, in_range, there}
-use Rattle.model.proofs.Known.{absent_known, undecided_known, committed_known, aborted_known, none_known, pending_known, promised_known}
+use Rattle.model.proofs.Known.{absent_known, undecided_known, committed_known, aborted_known, promised_known}
 use Rattle.model.proofs.Orderly.{Orderly}
-use Rattle.model.proofs.Passed.{Passed, passed, well_answer}
+use Rattle.model.proofs.Passed.{Passed, passed}
 use Rattle.model.proofs.Rooms.{owes_moved_here, owes_moved_other, covered_at, owed_raised}
 
 -- a transaction in use has the list and the order of its last start

@@ -1,8 +1,8 @@
 -- Values picked from a list and put back into it. Assumes nothing.
-use Rattle.std.proofs.Common.{◌≡◌, ℕ, suc, ◌<◌, ◌≤◌, Bool, true, false, ◌&&◌, ◌||◌, eqb, ltb, leb, ◌≢◌, List, [], ◌∷◌, length, get_or, set, sym, refl, ap, ◌∙◌, subst, inl, inr, arith, length-set}
+use Rattle.std.proofs.Common.{◌≡◌, ℕ, suc, ◌<◌, ◌≤◌, true, false, ◌||◌, eqb, ltb, leb, List, [], ◌∷◌, length, get_or, set, sym, refl, ap, ◌∙◌, subst, inl, inr, arith, length-set}
 use Rattle.std.proofs.lemmas.List.{get_or-set_same, get_or-set_other}
-use Rattle.std.proofs.lemmas.Bool.{cases_eq, cases_Bool, both_ways, or_parts, or_cases, or_left, or_right, and_parts, eqb-true, eqb-false, eq-eqb, ne_eqb, ltb-true, leb-true, true≢false}
-use Rattle.orders.specs.Ascending.{ascends_from, ascending}
+use Rattle.std.proofs.lemmas.Bool.{both_ways, or_parts, or_cases, or_left, or_right, and_parts, eqb-true, eqb-false, eq-eqb, ne_eqb, ltb-true, leb-true, true≢false}
+use Rattle.orders.specs.Ascending.{ascends_from}
 use Rattle.orders.specs.Lists.{all_below}
 use Rattle.model.specs.Orders.{picked, replaced, listed, overlap}
 

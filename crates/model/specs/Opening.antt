@@ -1,5 +1,5 @@
 -- Opening a register over a row of stores. Assumes nothing.
-use Rattle.std.specs.Prelude.{ℕ, Bool, true, not, ◌&&◌, ◌||◌, List, [], ◌∷◌, length, replicate, ◌==◌, nat_lt, slice_index}
+use Rattle.std.specs.Prelude.{ℕ, Bool, true, not, ◌||◌, List, [], ◌∷◌, length, replicate, ◌==◌, nat_lt, slice_index}
 use Rattle.stores.specs.Rows.{StoreState, place_count, store_at}
 use Rattle.model.specs.Checks.{Check, first, all_to}
 use Rattle.model.specs.Docket.{blank}

@@ -1,5 +1,5 @@
 -- What orders do to values, and what transactions hold and owe. Assumes nothing.
-use Rattle.std.specs.Prelude.{ℕ, zero, suc, ◌+◌, Bool, true, false, cond, ◌&&◌, ◌||◌, List, [], ◌∷◌, map, length, ◌==◌, slice_index, slice_set}
+use Rattle.std.specs.Prelude.{ℕ, zero, suc, ◌+◌, Bool, false, cond, ◌&&◌, ◌||◌, List, [], ◌∷◌, map, length, ◌==◌, slice_index, slice_set}
 use Rattle.orders.specs.Rulebooks.{Rules}
 use Rattle.model.specs.Docket.{Entry, Docket}
 use Rattle.model.specs.Statuses.{is_holding, is_promised}

@@ -1,6 +1,6 @@
 -- One way to carry out calls, so that examples can be computed: each write takes one of the room, and a tidy restores
 -- the floor. Every step of it is a step of the register. Assumes nothing.
-use Rattle.std.specs.Prelude.{◌≡◌, ℕ, ◌-◌, max, cond, List, [], ◌∷◌, ◌==◌, slice_set}
+use Rattle.std.specs.Prelude.{ℕ, ◌-◌, max, cond, List, [], ◌∷◌, ◌==◌, slice_set}
 use Rattle.stores.specs.Rows.{StoreState, store_at}
 use Rattle.orders.specs.Rulebooks.{Rules}
 use Rattle.model.specs.Calls.{Call, start, issue, begin, promise, decline, commit, abort, apply, drop, clear, down, up, tidy, read}

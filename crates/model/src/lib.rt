@@ -1,5 +1,7 @@
 // The words in which the register's contracts are written: calls, what a register means, what each call does,
 // and the law that holds of every run. There is almost no code here.
+#![tactic(auto)]
+
 ghost use Rattle.model.specs.Examples.{ExamplesHold};
 ghost use Rattle.model.specs.OneCopy.{OneCopyLaw};
 ghost use Rattle.model.specs.Playing.{PlayedAsStepped};

@@ -1,5 +1,5 @@
 -- Which lists of object numbers are lawful. Assumes nothing.
-use Rattle.std.specs.Prelude.{ℕ, Bool, true, false, cond, not, ◌&&◌, ◌||◌, List, [], ◌∷◌, length, take, Some, None, Option, ◌==◌, nat_lt}
+use Rattle.std.specs.Prelude.{ℕ, Bool, true, cond, not, ◌&&◌, ◌||◌, List, [], ◌∷◌, length, take, Some, None, Option, ◌==◌, nat_lt}
 use Rattle.orders.specs.declared.faults.ListFault.{ListFault}
 use Rattle.orders.specs.declared.faults.ListFault.TheVariants.{Length, Object, Order}
 use Rattle.orders.specs.declared.list.ObjectList.{ObjectList}

@@ -1,4 +1,6 @@
 // Object lists and orders: which objects a change is about, and what it makes of their values.
+#![tactic(auto)]
+
 pub mod assignment;
 mod bytes;
 mod clauses;

@@ -1,5 +1,5 @@
 -- A refusal stands whatever would be checked after it. Assumes nothing.
-use Rattle.std.proofs.Common.{◌≡◌, ℕ, true, false, List, [], ◌∷◌, ◌++◌, sym, refl, ◌∙◌, arith}
+use Rattle.std.proofs.Common.{◌≡◌, true, false, List, [], ◌∷◌, ◌++◌, sym, refl, ◌∙◌, arith}
 use Rattle.orders.specs.declared.faults.ListFault.TheVariants.{Length, Object, Order}
 use Rattle.model.specs.Checks.{Check, first}
 use Rattle.register.specs.Refusals.{refusal_number}

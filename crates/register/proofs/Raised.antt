@@ -4,7 +4,7 @@ use mathlib.Core.Path.{fun_ext}
 use Rattle.model.specs.declared.statuses.Standing.TheVariants.{Absent}
 use Rattle.model.specs.declared.statuses.Status.{Status}
 use Rattle.model.specs.declared.statuses.Status.TheVariants.{None}
-use Rattle.model.specs.Docket.{Entry, Docket, blank, raised}
+use Rattle.model.specs.Docket.{Entry, blank, raised}
 
 none_twice : (b : Bool) → cond b None None ≡ None
 none_twice true = refl

@@ -1,4 +1,6 @@
 // The register: one copy of its values at each machine of a row, with calls that refuse by number.
+#![tactic(auto)]
+
 pub mod calls;
 pub mod opening;
 pub mod outcomes;

@@ -12,7 +12,7 @@ use Rattle.runfile.specs.declared.header.Header.{Header as FileHeader}
 use Rattle.runfile.specs.declared.tags.Tag.{Tag}
 use Rattle.runfile.specs.Tags.{tag_of, named_by}
 use Rattle.runfile.specs.HeaderFormat.{header_of, value_place}
-use Rattle.runfile.specs.StepFormat.{Reading, broken, found, step_at, tagged_at, first_unused, step_end, call_at, Within}
+use Rattle.runfile.specs.StepFormat.{broken, found, step_at, tagged_at, first_unused, step_end, call_at, Within}
 use Rattle.runfile.specs.FileFormat.{calls_from, end_from, calls_of, end_of}
 
 -- a step that is found is none of the broken ones before it in the order of the checks

@@ -4,7 +4,7 @@ use Rattle.model.specs.Calls.{Call}
 use Rattle.runfile.specs.declared.faults.RunFault.{RunFault}
 use Rattle.runfile.specs.declared.faults.RunFault.TheVariants.{Header, Step}
 use Rattle.runfile.specs.HeaderFormat.{header_of, value_place}
-use Rattle.runfile.specs.StepFormat.{Reading, broken, found, step_at}
+use Rattle.runfile.specs.StepFormat.{broken, found, step_at}
 
 -- the calls of at most `left` steps from a place on, up to the first step that is broken
 abbrev pub calls_from : (left : ℕ) → List ℕ → (place : ℕ) → List Call

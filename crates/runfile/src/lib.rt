@@ -1,4 +1,6 @@
 // The run file: its header, its opening values and its steps, read from bytes, with every fault and its place.
+#![tactic(auto)]
+
 pub mod faults;
 pub mod header;
 pub mod steps;

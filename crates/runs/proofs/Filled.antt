@@ -1,9 +1,8 @@
 -- Filling one store after the other. Assumes nothing.
-use Rattle.std.proofs.Common.{◌≡◌, ℕ, zero, suc, ◌+◌, ◌<◌, ◌≤◌, min, true, ltb, ◌≢◌, List, length, get_or, set, sym, refl, ap, ◌∙◌, subst, inl, inr, add-one, arith, length-set}
-use Rattle.std.proofs.lemmas.List.{ext_get_or, get_or-set_same, get_or-set_other}
-use Rattle.std.proofs.lemmas.Bool.{cond-true, cases_eq, cases_lt}
-use Rattle.stores.specs.Rows.{StoreState, WriteChange, AmpleFloors, no_store, has_place, place_count, store_at, with_store}
-use Rattle.stores.proofs.Written.{write_replaces}
+use Rattle.std.proofs.Common.{◌≡◌, ℕ, ◌+◌, ◌<◌, ◌≤◌, true, ◌≢◌, List, length, get_or, set, sym, refl, ap, ◌∙◌, subst, inl, inr, add-one, arith, length-set}
+use Rattle.std.proofs.lemmas.List.{get_or-set_other}
+use Rattle.std.proofs.lemmas.Bool.{cond-true, cases_eq}
+use Rattle.stores.specs.Rows.{StoreState, WriteChange, no_store, has_place, store_at, with_store}
 use Rattle.runs.specs.Loading.{FilledTo, Loaded}
 
 -- one value more

@@ -1,12 +1,12 @@
 -- A file that the row fits, from the parts of its run. Assumes nothing.
-use Rattle.std.proofs.Common.{◌≡◌, ℕ, ◌<◌, List, length, Ok, Option, sym, ◌∙◌, subst, arith}
+use Rattle.std.proofs.Common.{◌≡◌, ℕ, ◌<◌, List, Ok, Option, sym, ◌∙◌, subst, arith}
 use Rattle.stores.specs.Rows.{StoreState, AmpleFloors, place_count, store_at}
 use Rattle.model.specs.Calls.{Call}
 use Rattle.model.specs.Opening.{opened, opening_number}
 use Rattle.model.specs.World.{World}
 use Rattle.register.specs.declared.outcomes.Outcome.{Outcome}
 use Rattle.runfile.specs.FileFormat.{calls_from, calls_of, end_from}
-use Rattle.runfile.specs.HeaderFormat.{object_count, opening_values, value_place}
+use Rattle.runfile.specs.HeaderFormat.{opening_values, value_place}
 use Rattle.runfile.specs.declared.faults.RunFault.{RunFault}
 use Rattle.runfile.specs.declared.header.Header.{Header}
 use Rattle.runfile.proofs.SoundHeader.{sound_at_ok}

@@ -1,10 +1,10 @@
 -- What is known of a row that fits a file. Assumes nothing.
-use Rattle.std.proofs.Common.{◌≡◌, ℕ, ◌<◌, Bool, true, false, cond, not, eqb, List, length, Ok, Err, Result, sym, refl, ◌∙◌, arith}
+use Rattle.std.proofs.Common.{◌≡◌, ℕ, ◌<◌, Bool, true, false, cond, not, eqb, List, length, Ok, Err, Result, refl, ◌∙◌, arith}
 use Rattle.std.proofs.lemmas.Bool.{eqb-true, not-false}
 use Rattle.stores.specs.Rows.{StoreState, place_count, store_at}
 use Rattle.model.specs.Checks.{all_to}
 use Rattle.model.proofs.Counts.{all_to_each}
-use Rattle.runfile.specs.HeaderFormat.{header_of, fault}
+use Rattle.runfile.specs.HeaderFormat.{header_of}
 use Rattle.runfile.specs.declared.faults.HeaderFault.{HeaderFault}
 use Rattle.runfile.specs.declared.faults.HeaderFaultKind.TheVariants.{RowDiffers}
 use Rattle.runfile.specs.declared.header.Header.{Header}

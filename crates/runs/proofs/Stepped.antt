@@ -1,16 +1,16 @@
 -- A run of a file's steps, one step on. Assumes nothing.
-use Rattle.std.proofs.Common.{◌≡◌, ℕ, suc, ◌+◌, ◌-◌, ◌*◌, ◌<◌, ◌≤◌, true, List, [], ◌∷◌, ◌++◌, reverse, length, sym, refl, ap, ◌∙◌, subst, append_assoc, arith, length-append}
+use Rattle.std.proofs.Common.{◌≡◌, ℕ, ◌+◌, ◌-◌, ◌*◌, ◌<◌, ◌≤◌, List, [], ◌∷◌, ◌++◌, reverse, length, sym, refl, ap, ◌∙◌, subst, append_assoc, arith}
 use Rattle.std.proofs.lemmas.List.{append-nil, reverse-append, length_push}
 use Rattle.model.specs.Calls.{Call}
 use Rattle.model.specs.Histories.{History, Run}
-use Rattle.model.specs.Steps.{Event, Step}
+use Rattle.model.specs.Steps.{Step}
 use Rattle.model.specs.World.{World}
 use Rattle.register.specs.declared.outcomes.Outcome.{Outcome}
 use Rattle.register.specs.Meaning.{no_orders}
 use Rattle.register.specs.Outcomes.{event_of}
 use Rattle.runfile.specs.FileFormat.{calls_from, end_from}
-use Rattle.runfile.specs.StepFormat.{found, step_at, broken, Within}
-use Rattle.runfile.proofs.Walk.{calls_found, end_found, calls_broken, calls_done}
+use Rattle.runfile.specs.StepFormat.{found, step_at, Within}
+use Rattle.runfile.proofs.Walk.{calls_found, end_found}
 use Rattle.runs.specs.Running.{events, history, Ran}
 
 events_push : (calls : List Call) (outcomes : List Outcome) (call : Call) (outcome : Outcome) → length outcomes ≡ length calls

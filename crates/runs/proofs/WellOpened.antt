@@ -1,5 +1,5 @@
 -- A row that was loaded is well opened, and has one copy. Assumes nothing.
-use Rattle.std.proofs.Common.{◌≡◌, ℕ, zero, suc, ◌<◌, ◌≤◌, Bool, true, false, not, ◌||◌, eqb, ltb, ◌≢◌, List, [], ◌∷◌, length, get_or, set, sym, refl, ap, ◌∙◌, subst, inl, inr, arith, length-set}
+use Rattle.std.proofs.Common.{◌≡◌, ℕ, zero, suc, ◌<◌, ◌≤◌, false, List, [], ◌∷◌, length, get_or, set, sym, refl, ap, ◌∙◌, subst, inl, inr, arith, length-set}
 use Rattle.std.proofs.lemmas.List.{ext_get_or, get_or-set_same, get_or-set_other, length-replicate}
 use Rattle.std.proofs.lemmas.Bool.{cases_eq, cond-false, eq-eqb, le-ltb, or_from, not_from_true, false≢true}
 use Rattle.stores.specs.Rows.{StoreState, WriteChange, AmpleFloors, place_count, store_at}
@@ -7,7 +7,7 @@ use Rattle.stores.proofs.Written.{write_replaces}
 use Rattle.model.specs.Histories.{History, Run}
 use Rattle.model.specs.OneCopy.{OneCopy}
 use Rattle.orders.specs.Rulebooks.{RulebookLaws}
-use Rattle.model.specs.Checks.{Check, first, all_to}
+use Rattle.model.specs.Checks.{Check, first}
 use Rattle.model.specs.Opening.{outside, same_counts, same_value, same_values, wrong_machine_count, wrong_object_counts, copies_differ, opening_number, opened}
 use Rattle.model.specs.World.{World}
 use Rattle.model.proofs.Counts.{all_to_true}

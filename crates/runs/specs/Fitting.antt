@@ -1,5 +1,5 @@
 -- Whether a row of stores is the one that a run file is for. Assumes nothing.
-use Rattle.std.specs.Prelude.{◌≡◌, ℕ, Bool, cond, not, List, length, Ok, Err, Result, ◌==◌}
+use Rattle.std.specs.Prelude.{ℕ, Bool, cond, not, List, length, Ok, Err, Result, ◌==◌}
 use Rattle.stores.specs.Rows.{StoreState, place_count, store_at}
 use Rattle.model.specs.Checks.{all_to}
 use Rattle.runfile.specs.HeaderFormat.{header_of, fault}

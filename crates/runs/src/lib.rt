@@ -1,4 +1,6 @@
 // Running a run file over a row of stores: loading its opening values, and making its calls one after the other.
+#![tactic(auto)]
+
 pub mod fitting;
 mod loading;
 pub mod running;

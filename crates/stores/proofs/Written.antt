@@ -1,10 +1,10 @@
 -- Room is made where there is none, and then a write is not refused. Assumes nothing.
-use Rattle.std.proofs.Common.{◌≡◌, ℕ, ◌≤◌, min, max, Bool, true, false, cond, eqb, ltb, List, length, set, is_ok, Some, None, Ok, Err, unwrap_or, sym, refl, ap, ◌∙◌, inl, inr, arith, length-set}
+use Rattle.std.proofs.Common.{◌≡◌, ℕ, ◌≤◌, min, Bool, true, false, cond, eqb, ltb, List, length, set, is_ok, Some, None, Ok, Err, unwrap_or, sym, refl, ap, ◌∙◌, inl, inr, arith, length-set}
 use Rattle.std.proofs.lemmas.List.{set-get_or, set-set, set_past}
 use Rattle.std.proofs.lemmas.Bool.{cond-true, cond-false, cases_lt, cases_eq, cases_Bool, lt-ltb, le-ltb, ltb-true, ne_eqb}
 use Rattle.stores.specs.declared.traits.PutRefusal.TheVariants.{NoSuchObject, NoRoom}
-use Rattle.stores.specs.Meaning.{put_answer, values_after_put}
-use Rattle.stores.specs.Rows.{StoreState, TidyChange, RoomChange, PutChange, WriteChange, AmpleFloors, no_store, place_count, has_place, store_at, answer_at, with_store}
+use Rattle.stores.specs.Meaning.{values_after_put}
+use Rattle.stores.specs.Rows.{StoreState, RoomChange, WriteChange, AmpleFloors, no_store, has_place, store_at, answer_at, with_store}
 
 -- nothing changed, in these words
 pub with_same : (stores : List StoreState) (place : ℕ) → stores ≡ with_store stores place (store_at stores place)

@@ -1,10 +1,10 @@
 -- Two joined rows: a place lies in the first or, after all of those, in the second. Assumes nothing.
-use Rattle.std.specs.Prelude.{◌≡◌, ℕ, ◌+◌, ◌-◌, ◌<◌, ◌≤◌, min, true, false, cond, List, ◌++◌, length, slice_set, refl}
+use Rattle.std.specs.Prelude.{◌≡◌, ℕ, ◌+◌, ◌-◌, ◌<◌, ◌≤◌, min, List, ◌++◌, length, slice_set, refl}
 use Rattle.std.proofs.Common.{ap, sym, subst, ◌∙◌, inl, inr, arith, length-set, length-append}
 use Rattle.std.proofs.lemmas.List.{get_or_append_left, get_or-append_right, set-append_left, set-append_right}
-use Rattle.std.proofs.lemmas.Bool.{cond-true, lt-ltb, le-ltb, ltb-true, cases_lt}
+use Rattle.std.proofs.lemmas.Bool.{cond-true, lt-ltb, ltb-true, cases_lt}
 use Rattle.stores.specs.declared.joins.Side.TheVariants.{First, Second}
-use Rattle.stores.specs.Rows.{StoreState, AmpleFloors, no_store, place_count, has_place, store_at, with_store}
+use Rattle.stores.specs.Rows.{StoreState, AmpleFloors, no_store, place_count, store_at, with_store}
 use Rattle.stores.specs.Sides.{Lies}
 
 pub counts_add : (a b : List StoreState) → min (place_count a + place_count b) 255 ≡ place_count (a ++ b)

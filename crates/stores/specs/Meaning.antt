@@ -1,5 +1,5 @@
 -- What a replica store means, and what its operations answer. Assumes nothing.
-use Rattle.std.specs.Prelude.{ℕ, Bool, true, false, cond, List, length, is_ok, Some, None, Ok, Err, Option, Result, ◌==◌, nat_lt, slice_index, slice_set}
+use Rattle.std.specs.Prelude.{ℕ, cond, List, length, is_ok, Some, None, Ok, Err, Option, Result, ◌==◌, nat_lt, slice_index, slice_set}
 use Rattle.stores.specs.declared.traits.PutRefusal.{PutRefusal}
 use Rattle.stores.specs.declared.traits.PutRefusal.TheVariants.{NoSuchObject, NoRoom}
 

@@ -1,5 +1,5 @@
 -- What a row of stores means: a list of stores, by what each means. Assumes nothing.
-use Rattle.std.specs.Prelude.{◌≡◌, ℕ, ◌+◌, ◌<◌, ◌≤◌, min, max, Bool, true, false, cond, List, [], length, is_ok, Some, None, Option, ◌≢◌, nat_lt, slice_index_or, slice_set}
+use Rattle.std.specs.Prelude.{◌≡◌, ℕ, ◌+◌, ◌<◌, ◌≤◌, min, max, Bool, false, cond, List, [], length, is_ok, Some, None, Option, ◌≢◌, nat_lt, slice_index_or, slice_set}
 use Rattle.stores.specs.Meaning.{put_answer, values_after_put}
 
 -- one store: its values, its room, and the floor of its kind

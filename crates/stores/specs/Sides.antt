@@ -1,5 +1,5 @@
 -- Where a place of two joined rows lies. Assumes nothing.
-use Rattle.std.specs.Prelude.{◌≡◌, ℕ, ◌+◌, ◌<◌, true, false, List, ◌++◌, length}
+use Rattle.std.specs.Prelude.{◌≡◌, ℕ, ◌+◌, true, false, List, ◌++◌, length}
 use Rattle.stores.specs.declared.joins.Join.{Join}
 use Rattle.stores.specs.declared.joins.Side.{Side}
 use Rattle.stores.specs.declared.joins.Side.TheVariants.{First, Second, Neither}

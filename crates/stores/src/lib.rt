@@ -1,4 +1,6 @@
 // Replica stores, and rows of them: a store holds one machine's copy of the register.
+#![tactic(auto)]
+
 mod entries;
 pub mod joins;
 pub mod journals;

@@ -1,5 +1,5 @@
 -- What the table of transactions means. Assumes nothing.
-use Rattle.std.specs.Prelude.{ℕ, List, Some, None, Option, slice_index_or}
+use Rattle.std.specs.Prelude.{List, Some, None, Option, slice_index_or}
 use Rattle.model.specs.Docket.{Entry, Docket, blank}
 use Rattle.transactions.specs.declared.entries.Transaction.{Transaction}
 use Rattle.transactions.specs.declared.tables.Table.{Table}

@@ -1,4 +1,6 @@
 // The transactions that a register keeps: a table of 64, by what it means.
+#![tactic(auto)]
+
 pub mod entries;
 pub mod owing;
 pub mod tables;

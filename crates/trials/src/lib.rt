@@ -1,4 +1,6 @@
 // Tests of the whole: every fault of a run file with its byte, every refusal that can occur today, rows and full journals.
+#![tactic(auto)]
+
 #[cfg(test)]
 mod files;
 #[cfg(test)]

@@ -11,5 +11,5 @@ returns-in-Ok g c =
       fault = finished.fault;
       left = world g.R.Row.stores finished.register;
       run = c.in-Ok.ensures.finished;
-      lines = c.in_ok-listing_text.ensures ∙ ap (λ os. listing_text os finished.fault) c.as_slice.ensures.value;
+      lines = c.in_ok-listing_text-in-Ok.ensures ∙ ap (λ os. listing_text os finished.fault) c.as_slice.ensures.value;
     }

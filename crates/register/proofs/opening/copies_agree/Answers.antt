@@ -1,4 +1,4 @@
-use Rattle.std.proofs.Common.{sym, ◌∙◌, arith, rules}
+use Rattle.std.proofs.Common.{sym, ◌∙◌, arith}
 use Rattle.model.specs.Opening.{same_values}
 use Rattle.register.proofs.Tested.{passes_more, fails_at}
 use Rattle.register.proofs.opening.copies_agree.Goals as goal

@@ -1,4 +1,4 @@
-use Rattle.std.proofs.Common.{◌≡◌, ◌++◌, length, take, drop}
+use Rattle.std.proofs.Common.{◌≡◌, ◌++◌, take, drop}
 use Rattle.stores.specs.Rows.{store_at}
 use Rattle.model.specs.Orders.{picked}
 use Rattle.register.proofs.reading.copy_values.Given as goal

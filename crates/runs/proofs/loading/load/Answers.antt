@@ -1,4 +1,4 @@
-use Rattle.std.proofs.Common.{◌≡◌, ℕ, ◌<◌, sym, ◌∙◌, subst, arith}
+use Rattle.std.proofs.Common.{ℕ, ◌<◌, sym, ◌∙◌, subst, arith}
 use Rattle.runfile.specs.HeaderFormat.{opening_values}
 use Rattle.runfile.proofs.Values.{length_opening_values}
 use Rattle.std.proofs.lemmas.Bool.{lt-ltb}
@@ -10,8 +10,8 @@ use Rattle.runs.proofs.loading.load.Goals as goal
 pub loop-machine-init : goal.loop-machine-init
 loop-machine-init g c = loaded_none (g.R.Row.stores c.args.row.now) (opening_values c.args.file.now)
 
-pub load-store-requires : goal.load_store-requires
-load-store-requires g c =
+pub load_store-requires : goal.load_store-requires
+load_store-requires g c =
     let there : c.loop-machine.machine < place_count (g.R.Row.stores c.loop-machine.row) = omega (arith, c.loop-machine.invariant.count) in
     (c.requires.0, lt-ltb _ _ there)
 

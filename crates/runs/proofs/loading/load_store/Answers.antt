@@ -1,5 +1,5 @@
-use Rattle.std.proofs.Common.{◌≡◌, ℕ, ◌≤◌, sym, refl, ◌∙◌, subst, arith}
-use Rattle.runfile.specs.HeaderFormat.{opening_values, object_count}
+use Rattle.std.proofs.Common.{◌≡◌, ℕ, sym, refl, ◌∙◌, subst, arith}
+use Rattle.runfile.specs.HeaderFormat.{opening_values}
 use Rattle.runfile.proofs.Values.{getD_opening_values}
 use Rattle.stores.specs.Rows.{store_at}
 use Rattle.stores.proofs.Written.{with_same, with_twice, has_place_kept}

@@ -1,4 +1,4 @@
-use Rattle.std.proofs.Common.{ℕ, List, vec_items, ◌∙◌, subst, arith}
+use Rattle.std.proofs.Common.{vec_items, ◌∙◌, subst, arith}
 use Rattle.model.specs.World.{World}
 use Rattle.register.specs.Meaning.{world}
 use Rattle.runfile.specs.FileFormat.{calls_from}
@@ -15,8 +15,8 @@ load-requires g c =
     let sound = sound_at_ok c.args.file.now c.args.header fit.reading in
     (sound.objects_are, omega (arith, fit.machines, sound.machines_bound))
 
-pub run-steps-ended-requires : goal.run_steps-ended-requires
-run-steps-ended-requires g c =
+pub run_steps-ended-requires : goal.run_steps-ended-requires
+run_steps-ended-requires g c =
     let fit = fits (g.R.Row.stores c.args.row) c.args.file.now c.args.header c.requires.fits in
     let sound = sound_at_ok c.args.file.now c.args.header fit.reading in
     record { inside = sound.values_inside; empty = c.requires.empty; reserved = c.requires.reserved }

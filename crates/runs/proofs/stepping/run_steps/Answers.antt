@@ -1,4 +1,4 @@
-use Rattle.std.proofs.Common.{◌≡◌, ℕ, ◌+◌, List, vec_items, vec_capacity, sym, refl, ◌∙◌, subst, arith}
+use Rattle.std.proofs.Common.{◌+◌, List, vec_items, sym, refl, ◌∙◌, subst, arith}
 use Rattle.std.proofs.lemmas.Result.{err_from_is_err_and}
 use Rattle.register.specs.Meaning.{world}
 use Rattle.register.specs.declared.outcomes.Outcome.{Outcome}
@@ -17,8 +17,8 @@ loop-step-init g c =
       refl,
     )
 
-pub push-reserved-requires : goal.push_reserved-requires
-push-reserved-requires g c =
+pub push_reserved-requires : goal.push_reserved-requires
+push_reserved-requires g c =
     let within = c.in_ok-call.ensures.within in
     omega (arith, within.forward, within.inside, c.loop-step.invariant.0.far, c.loop-step.invariant.1, c.requires.reserved, c.loop-step.outcomes.ok.0)
 
@@ -42,7 +42,7 @@ returns-in_err-call g c =
     let start = value_place c.args.header.objects in
     let n = c.args.header.steps in
     let file = c.args.file.now in
-    let p = err_from_is_err_and c.from-residual.result c.from-residual.ensures.1 in
+    let p = err_from_is_err_and c.from_residual.result c.from_residual.ensures.1 in
     let read = c.in_err-call.ensures in
     rw (p.1, p.2) (record {
       steps = midway_last n file start w c.loop-step.step c.loop-step.place (vec_items c.loop-step.outcomes) v c.loop-step.invariant.0

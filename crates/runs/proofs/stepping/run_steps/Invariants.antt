@@ -5,5 +5,5 @@ use Rattle.runs.proofs.stepping.run_steps.Given as goal
 
 abbrev pub invariant-loop-step : goal.invariant-loop-step
 invariant-loop-step g l =
-    Midway l.step_end l.file l.initial.place (world g.R.Row.stores l.initial.register) l.step l.place (vec_items l.outcomes) (world g.R.Row.stores l.register)
+    Midway l.step-end l.file l.initial.place (world g.R.Row.stores l.initial.register) l.step l.place (vec_items l.outcomes) (world g.R.Row.stores l.register)
     × (vec_capacity l.outcomes ≡ vec_capacity l.initial.outcomes)

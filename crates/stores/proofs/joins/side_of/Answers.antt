@@ -1,4 +1,4 @@
-use Rattle.std.proofs.Common.{ℕ, ◌-◌, ◌≤◌, sym, subst, arith, rules}
+use Rattle.std.proofs.Common.{ℕ, ◌-◌, sym, subst, arith, rules}
 use Rattle.std.proofs.lemmas.Bool.{le-ltb}
 use Rattle.stores.specs.declared.joins.Side.TheVariants.{Second}
 use Rattle.stores.specs.Sides.{Lies}

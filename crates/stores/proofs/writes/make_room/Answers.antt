@@ -1,4 +1,4 @@
-use Rattle.std.proofs.Common.{unwrap_or, sym, ap, ◌∙◌}
+use Rattle.std.proofs.Common.{unwrap_or, ap, ◌∙◌}
 use Rattle.stores.proofs.Written.{with_same, room_left}
 use Rattle.stores.proofs.writes.make_room.Goals as goal
 

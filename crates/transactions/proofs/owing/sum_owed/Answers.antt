@@ -1,6 +1,6 @@
 use Rattle.std.proofs.Common.{◌≡◌, ap, ◌∙◌, arith}
 use Rattle.orders.specs.Rulebooks.{rules_of}
-use Rattle.model.specs.Orders.{transactions, owes, sum_to}
+use Rattle.model.specs.Orders.{owes, sum_to}
 use Rattle.transactions.specs.Tables.{table_docket}
 use Rattle.transactions.proofs.Summed.{sum_more}
 use Rattle.transactions.proofs.owing.sum_owed.Goals as goal
@@ -12,7 +12,6 @@ loop-t-preserved g c = (
 )
 
 pub returns : goal.returns
-unfolding transactions
 returns g c =
     let all : c.loop-t.t ≡ 64 = omega arith in
     record {

@@ -1,4 +1,4 @@
-use Rattle.std.proofs.Common.{◌≡◌, ◌≤◌, length, None, ap, ◌∙◌, arith}
+use Rattle.std.proofs.Common.{◌≤◌, length, None, ap, ◌∙◌, arith}
 use Rattle.std.proofs.lemmas.List.{get_or_past}
 use Rattle.transactions.specs.Tables.{slot_entry, docket_in}
 use Rattle.transactions.proofs.RaisedTo.{raised_none, raised_more, raised_all}

@@ -1,4 +1,4 @@
-use Rattle.std.proofs.Common.{sym, ◌∙◌, arith}
+use Rattle.std.proofs.Common.{arith}
 use Rattle.trials.specs.BareRows.{counted}
 use Rattle.trials.proofs.rows.BareRow.count.Goals as goal
 

@@ -8,7 +8,7 @@ pub returns-then-place-count : goal.returns-then-place-count
 returns-then-place-count c =
     let n = c.args.self.now.count in
     record {
-      answer = put_refused n c.args.place c.args.-object (omega arith);
+      answer = put_refused n c.args.place c.args._object (omega arith);
       others = with_same (bare_row n) c.args.place;
-      change = unchanged_put n c.args.place c.args.-object c.args.-value;
+      change = unchanged_put n c.args.place c.args._object c.args._value;
     }
