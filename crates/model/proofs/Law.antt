@@ -1,4 +1,4 @@
--- The one_copy law. Assumes nothing.
+-- The one-copy law. Assumes nothing.
 use Rattle.std.proofs.Common.{◌≡◌, ℕ, ◌<◌, ◌≤◌, true, false, not, ◌&&◌, List, [], ◌∷◌, ◌++◌, length, sym, refl, ap, ◌∙◌, subst, inl, inr}
 use Rattle.std.proofs.lemmas.Bool.{and_parts, and_cases, not-true, not-false, both_ways, cases_eq, eq-eqb, ne_eqb, cond-true, cond-false}
 use Rattle.stores.specs.Rows.{StoreState, place_count, store_at}

@@ -1,4 +1,4 @@
--- The one_copy law: whatever calls are made, with any arguments and refusals anywhere, the machines together are one
+-- The one-copy law: whatever calls are made, with any arguments and refusals anywhere, the machines together are one
 -- copy. Assumes nothing.
 use Rattle.std.specs.Prelude.{◌≡◌, ℕ, ◌<◌, ◌≤◌, true, List, ◌∷◌, ◌++◌, ◌≢◌, slice_index}
 use Rattle.stores.specs.Rows.{StoreState, store_at}

@@ -10,7 +10,7 @@ pub mod statuses;
 
 pub use statuses::{Standing, Status, Turn};
 
-// Carries the proof of the one_copy law: no order of calls, restarts and refusals breaks it.
+// Carries the proof of the one-copy law: no order of calls, restarts and refusals breaks it.
 pub fn one_copy_is_kept()
     ensures { OneCopyLaw }
 {}
