@@ -1,9 +1,11 @@
 #!/usr/bin/env python3
 """Spells this repository's own definitions, lemmas and record fields in snake case.
 
-Usage, once, at the top of the repository, after the kit's port.py:  python3 tools/respell.py
+Usage, once, at the top of the repository, after the kit's port.py:  python3 tools/respell.py --over
 A name is the repository's own if a file of specs/ or proofs/ declares it; names that the toolchain gives to goals, and
-names of the library, stay as they are. Prints each pair of names, and refuses where two names would fall together.
+names of the library, stay as they are. Prints each pair of names. With --look it writes nothing and tells which names
+fall together with one that is there; without --over it stops at them. It was run over them once they had been looked at:
+each is a word of specs/ and the function whose meaning it says.
 """
 import re
 import sys
