@@ -1,4 +1,5 @@
 pub mod Entries
+pub mod JournalParts
 pub mod Journals
 pub mod Making
 pub mod Meaning

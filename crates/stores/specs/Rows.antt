@@ -26,9 +26,13 @@ store_at stores place = slice_index_or stores place no_store
 abbrev pub answer_at : {A : Type 0} → List StoreState → ℕ → (StoreState → A) → Option A
 answer_at stores place ask = cond (has_place stores place) (Some (ask (store_at stores place))) None
 
--- no store but the one at that place is changed
+-- the store at that place is another, if there is one
 abbrev pub with_store : List StoreState → ℕ → StoreState → List StoreState
 with_store stores place store = cond (has_place stores place) (slice_set stores place store) stores
+
+-- no store but the one at that place is changed
+abbrev pub ChangesOnlyAt : List StoreState → ℕ → List StoreState → Type 0
+ChangesOnlyAt before place after = after ≡ with_store before place (store_at after place)
 
 -- what a put may do to a store
 pub record PutChange (before : StoreState) (object value : ℕ) (after : StoreState) : Type 0 where

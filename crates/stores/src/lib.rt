@@ -4,6 +4,7 @@
 mod entries;
 pub mod joins;
 pub mod journals;
+mod making;
 pub mod mixed;
 pub mod rows;
 pub mod tables;

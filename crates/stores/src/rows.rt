@@ -1,7 +1,7 @@
 // Rows: a row means a list of stores, one for each machine. One store is a row, and two rows joined are a row.
-ghost use Rattle.std.specs.Prelude.{◌≡◌, true, List, [], ◌∷◌, ◌++◌, length, if◌then◌else◌, None};
+ghost use Rattle.std.specs.Prelude.{◌≡◌, true, List, [], ◌∷◌, ◌++◌, length, if◌then◌else◌, None, ◌<◌, MatchOption};
 ghost use Rattle.stores.specs.Meaning.{value_at, put_answer};
-ghost use Rattle.stores.specs.Rows.{StoreState, AmpleFloors, PutChange, TidyChange, place_count, has_place, store_at, answer_at, with_store};
+ghost use Rattle.stores.specs.Rows.{StoreState, AmpleFloors, PutChange, TidyChange, place_count, has_place, store_at, answer_at, ChangesOnlyAt};
 ghost use Rattle.std.proofs.Common.{rules};
 
 use crate::traits::{PutRefusal, Store};
@@ -9,7 +9,8 @@ use crate::traits::{PutRefusal, Store};
 pub trait Row {
     ghost stores: { Self → List StoreState };
 
-    // The number of stores, or 255 where there are more.
+    // The number of stores, or 255 where there are more. The other questions and writes take a place and what they are about,
+    // which a caller has apart.
     fn count(&self) -> u8
         ensures { result ≡ place_count (stores self.now) };
 
@@ -26,13 +27,13 @@ pub trait Row {
     // None where the row has no such place.
     fn put(&mut self, place: u8, object: usize, value: u32) -> Option<Result<(), PutRefusal>>
         ensures answer { result ≡ answer_at (stores self.old) place (λ s. put_answer s.values s.room object) }
-        ensures others { stores self.new ≡ with_store (stores self.old) place (store_at (stores self.new) place) }
+        ensures others { ChangesOnlyAt (stores self.old) place (stores self.new) }
         ensures change { has_place (stores self.old) place ≡ true → PutChange (store_at (stores self.old) place) object value (store_at (stores self.new) place) };
 
-    // False where the row has no such place.
-    fn tidy(&mut self, place: u8) -> bool
-        ensures answer { result ≡ has_place (stores self.old) place }
-        ensures others { stores self.new ≡ with_store (stores self.old) place (store_at (stores self.new) place) }
+    // None where the row has no such place.
+    fn tidy(&mut self, place: u8) -> Option<()>
+        ensures answer { result ≡ answer_at (stores self.old) place (λ _. tt) }
+        ensures others { ChangesOnlyAt (stores self.old) place (stores self.new) }
         ensures change { has_place (stores self.old) place ≡ true → TidyChange (store_at (stores self.old) place) (store_at (stores self.new) place) };
 
     ghost floors_are_ample: { (row : Self) → AmpleFloors (stores row) };
@@ -44,8 +45,17 @@ pub struct One<S> {
     pub store: S,
 }
 
+impl<S: Store> One<S> {
+    // The store, at the only place.
+    fn at(&self, place: u8) -> Option<&S>
+        ensures { MatchOption result (0 < place) (λ s. (place ≡ 0) × (s.now ≡ self.now.store)) }
+    {
+        (place == 0).then_some(&self.store)
+    }
+}
+
 impl<S: Store> Row for One<S> {
-    ghost stores = { λ r. record { values = S.Store.values r.store; room = S.Store.room r.store; floor = S.Store.floor } ∷ [] };
+    ghost stores = { λ r. record { values = S.Store.values r.store; room = S.Store.room r.store; floor = S.Store.FLOOR } ∷ [] };
 
     ghost floors_are_ample = { Prim.search rules };
 
@@ -54,38 +64,31 @@ impl<S: Store> Row for One<S> {
     }
 
     fn object_count(&self, place: u8) -> Option<usize> {
-        if place > 0 {
-            return None;
-        }
-        Some(self.store.object_count())
+        self.at(place).map(S::object_count)
     }
 
     fn value(&self, place: u8, object: usize) -> Option<u32> {
-        if place > 0 {
-            return None;
-        }
-        self.store.value(object)
+        self.at(place)?.value(object)
     }
 
     fn remaining(&self, place: u8) -> Option<u32> {
-        if place > 0 {
-            return None;
-        }
-        Some(self.store.remaining())
+        self.at(place).map(S::remaining)
     }
 
     fn put(&mut self, place: u8, object: usize, value: u32) -> Option<Result<(), PutRefusal>> {
-        if place > 0 {
-            return None;
+        match place {
+            0 => Some(self.store.put(object, value)),
+            _ => None,
         }
-        Some(self.store.put(object, value))
     }
 
-    fn tidy(&mut self, place: u8) -> bool {
-        if place > 0 {
-            return false;
+    fn tidy(&mut self, place: u8) -> Option<()> {
+        match place {
+            0 => {
+                self.store.tidy();
+                Some(())
+            }
+            _ => None,
         }
-        self.store.tidy();
-        true
     }
 }

@@ -4,12 +4,23 @@ ghost use Rattle.stores.specs.Making.{Made};
 ghost use Rattle.stores.specs.Tables.{table_values, table_room};
 ghost use Rattle.std.proofs.Common.{rules};
 
+use crate::making::zeros;
 use crate::traits::{MakeError, PutRefusal, Store};
 use std::alloc::Global;
+use std::marker::Model;
 
 #[derive(Drop)]
 pub struct TableStore {
     values: Vec<u32>,
+}
+
+// To a caller the store is its values.
+impl Model for TableStore {
+    ghost use Rattle.std.specs.Prelude.{ℕ, List};
+
+    ghost Value = { List ℕ };
+
+    ghost view = { λ s. s.values.items };
 }
 
 impl TableStore {
@@ -17,10 +28,7 @@ impl TableStore {
     pub fn zeros(heap: Global, count: usize) -> Result<TableStore, MakeError>
         ensures { Made count result (λ s. table_values s ≡ replicate count 0) }
     {
-        if count > 256 {
-            return Err(MakeError::TooManyObjects);
-        }
-        let values = vec![in heap; 0; count]?;
+        let values = zeros(heap, count)?;
         Ok(TableStore { values })
     }
 }
@@ -32,13 +40,9 @@ impl Store for TableStore {
 
     ghost room = { table_room };
 
-    ghost floor = { 1024 };
+    ghost FLOOR = { 1024 };
 
     ghost floor_is_ample = { Prim.search rules };
-
-    fn stated_floor() -> u32 {
-        Self::FLOOR
-    }
 
     fn object_count(&self) -> usize {
         self.values.len()
@@ -53,10 +57,8 @@ impl Store for TableStore {
     }
 
     fn put(&mut self, object: usize, value: u32) -> Result<(), PutRefusal> {
-        if object >= self.object_count() {
-            return Err(PutRefusal::NoSuchObject);
-        }
-        self.values[object] = value;
+        let slot = self.values.get_mut(object).ok_or(PutRefusal::NoSuchObject)?;
+        *slot = value;
         Ok(())
     }
 

@@ -31,18 +31,21 @@ impl From<AllocError> for MakeError {
 }
 
 pub trait Store {
-    // The room that a tidy restores at the least. `floor` is the same number for clauses.
+    // The room that a tidy restores at the least.
     const FLOOR: u32;
 
     ghost values: { Self → List ℕ };
 
     ghost room: { Self → ℕ };
 
-    ghost floor: { ℕ };
+    ghost FLOOR: { ℕ };
 
     // The floor that this kind of store states.
     fn stated_floor() -> u32
-        ensures { result ≡ floor };
+        ensures { result ≡ FLOOR }
+    {
+        Self::FLOOR
+    }
 
     fn object_count(&self) -> usize
         ensures { result ≡ length (values self.now) };
@@ -62,7 +65,7 @@ pub trait Store {
 
     fn tidy(&mut self)
         ensures values { values self.new ≡ values self.old }
-        ensures room { max (room self.old) floor ≤ room self.new };
+        ensures room { max (room self.old) FLOOR ≤ room self.new };
 
-    ghost floor_is_ample: { 64 ≤ floor };
+    ghost floor_is_ample: { 64 ≤ FLOOR };
 }

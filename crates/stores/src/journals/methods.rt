@@ -1,13 +1,14 @@
 // What a journal store answers and does.
-ghost use Rattle.std.specs.Prelude.{◌≡◌, ◌-◌, replicate, is_ok, if◌then◌else◌};
+ghost use Rattle.std.specs.Prelude.{◌≡◌, ◌-◌, ◌≤◌, length, replicate, is_ok, if◌then◌else◌};
 ghost use Rattle.stores.specs.Entries.{newest_or_base};
 ghost use Rattle.stores.specs.Journals.{journal_values, journal_room};
 ghost use Rattle.stores.specs.Making.{Made};
 ghost use Rattle.stores.specs.Meaning.{value_at, put_answer, values_after_put};
-ghost use Rattle.std.proofs.Common.{rules, arith};
+ghost use Rattle.std.proofs.Common.{rules};
 
-use crate::entries::{append, forget, journal_count, journal_value, write_into};
-use crate::journals::JournalStore;
+use crate::entries::{Entry, newest_value, write_into};
+use crate::journals::{JournalStore, MOST_ENTRIES};
+use crate::making::zeros;
 use crate::traits::{MakeError, PutRefusal, Store};
 use std::alloc::Global;
 
@@ -16,45 +17,45 @@ impl JournalStore {
     pub fn zeros(heap: Global, count: usize) -> Result<JournalStore, MakeError>
         ensures { Made count result (λ s. (journal_values s ≡ replicate count 0) × (journal_room s ≡ 512)) }
     {
-        if count > 256 {
-            return Err(MakeError::TooManyObjects);
-        }
-        let base = vec![in heap; 0; count]?;
-        let entries = Vec::with_capacity(heap, 512)?;
+        let base = zeros(heap, count)?;
+        let entries = Vec::with_capacity(heap, MOST_ENTRIES)?;
         Ok(JournalStore { base, entries })
     }
 }
 
 impl Store for JournalStore {
-    const FLOOR: u32 = 512;
+    const FLOOR: u32 = MOST_ENTRIES as u32;
 
     ghost values = { journal_values };
 
     ghost room = { journal_room };
 
-    ghost floor = { 512 };
+    ghost FLOOR = { 512 };
 
-    ghost floor_is_ample = { first_of (Prim.search rules, Prim.grind (arith, Self.row.coded.inj)) };
+    ghost floor_is_ample = { Prim.search rules };
 
-    fn stated_floor() -> u32 {
-        Self::FLOOR
-    }
-
+    #[tactic(auto, using(crate::proofs::Journal::length_written))]
     fn object_count(&self) -> usize {
-        journal_count(self.entries.as_slice(), self.base.as_slice())
+        self.base.len()
     }
 
+    #[tactic(auto, using(crate::proofs::Journal::value_at_written))]
     fn value(&self, object: usize) -> Option<u32>
         ensures value { result ≡ value_at (journal_values self.now) object }
-        ensures newest { result ≡ newest_or_base self.now.entries.items self.now.base.items object }
+        ensures newest { result ≡ newest_or_base self.now.entries self.now.base object }
     {
-        journal_value(self.entries.as_slice(), self.base.as_slice(), object)
+        let base = self.base.get(object).copied()?;
+        Some(newest_value(&self.entries, object).unwrap_or(base))
     }
 
-    fn remaining(&self) -> u32 {
-        512 - self.entries.len() as u32
+    fn remaining(&self) -> u32
+        ensures room { result ≡ journal_room self.now }
+        ensures few { length self.now.entries ≤ 512 }
+    {
+        (MOST_ENTRIES - self.entries.len()) as u32
     }
 
+    #[tactic(auto, using(crate::proofs::Journal::written_push))]
     fn put(&mut self, object: usize, value: u32) -> Result<(), PutRefusal>
         ensures answer { result ≡ put_answer (journal_values self.old) (journal_room self.old) object }
         ensures values { journal_values self.new ≡ values_after_put (journal_values self.old) (journal_room self.old) object value }
@@ -63,10 +64,10 @@ impl Store for JournalStore {
         if object >= self.object_count() {
             return Err(PutRefusal::NoSuchObject);
         }
-        if self.entries.len() >= 512 {
+        if self.remaining() == 0 {
             return Err(PutRefusal::NoRoom);
         }
-        append(&mut self.entries, object, value);
+        self.entries.push_reserved(Entry { object, value });
         Ok(())
     }
 
@@ -74,7 +75,7 @@ impl Store for JournalStore {
         ensures values { journal_values self.new ≡ journal_values self.old }
         ensures room { journal_room self.new ≡ 512 }
     {
-        write_into(self.entries.as_slice(), &mut self.base);
-        forget(&mut self.entries);
+        write_into(&self.entries, &mut self.base);
+        self.entries.clear();
     }
 }
