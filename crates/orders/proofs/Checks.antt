@@ -1,38 +1,37 @@
--- The loops that check a list, one step on. Assumes nothing.
-use Rattle.std.proofs.Common.{◌≡◌, ℕ, suc, ◌+◌, ◌<◌, ◌≤◌, false, ◌&&◌, ltb, leb, List, [], ◌∷◌, ◌++◌, length, get_or, take, drop, set, sym, ap, ◌∙◌, add-one, arith}
-use Rattle.std.proofs.lemmas.List.{at_drop_more, take_all, take_more, take_more_set}
-use Rattle.std.proofs.lemmas.Bool.{lt-ltb, le-ltb, le-leb, lt-leb}
-use Rattle.orders.specs.Ascending.{ascends_from}
+-- What the tests of a list say of the list as a whole. Assumes nothing.
+use Rattle.std.proofs.Common.{◌≡◌, ℕ, zero, suc, ◌+◌, ◌<◌, ◌≤◌, Bool, true, false, ◌&&◌, ltb, leb, List, [], ◌∷◌, length, get_or, refl, sym, ap, ◌∙◌, arith}
+use native.Mathlib.Numerals.{unary_clauses}
+use Rattle.std.specs.List.{IsAllAdjacentAnswer, list_all}
+use Rattle.std.proofs.Math.Bool.{and-false}
+use Rattle.std.proofs.lemmas.Bool.{le-leb}
+use Rattle.std.proofs.lemmas.Bool.Decides.{nat_tests}
+use Rattle.orders.specs.Ascending.{ascending, ascends_from}
 use Rattle.orders.specs.Lists.{all_below}
 
-pub below_step : (count : ℕ) (xs : List ℕ) (i : ℕ) → i < length xs → all_below count (drop i xs) ≡ (ltb (get_or xs i 0) count && all_below count (drop (i + 1) xs))
-below_step count xs i within = at_drop_more (all_below count) xs i 0 within
+pub below_as_all : (count : ℕ) (xs : List ℕ) → list_all (λ x. ltb x count) xs ≡ all_below count xs
+below_as_all count [] = refl
+below_as_all count (x ∷ xs) = ap (λ b. ltb x count && b) (below_as_all count xs)
 
-pub below_passes : (count : ℕ) (xs : List ℕ) (i : ℕ) → i < length xs → get_or xs i 0 < count → all_below count (drop (i + 1) xs) ≡ all_below count (drop i xs)
-below_passes count xs i within below =
-    sym (below_step count xs i within ∙ ap (λ b. b && all_below count (drop (i + 1) xs)) (lt-ltb _ _ below))
+-- from `least` on each number is above the one before it
+rises : (least x : ℕ) (xs : List ℕ) → least ≤ x → ((k d : ℕ) → k + 1 < length (x ∷ xs) → true ≡ ltb (get_or (x ∷ xs) k d) (get_or (x ∷ xs) (k + 1) d)) → ascends_from least (x ∷ xs) ≡ true
+rises least x [] above each = ap (λ b. b && true) (le-leb least x above)
+rises least x (y ∷ ys) above each =
+    let first : true ≡ ltb x y = each 0 0 (omega arith) in
+    let next : suc x ≤ y = grind (arith, nat_tests) in
+    ap (λ b. b && ascends_from (suc x) (y ∷ ys)) (le-leb least x above)
+    ∙ rises (suc x) y ys next (λ k d within. simp unary_clauses (simp unary_clauses at (each (suc k) d (omega arith))))
 
-pub below_fails : (count : ℕ) (xs : List ℕ) (i : ℕ) → i < length xs → count ≤ get_or xs i 0 → all_below count (drop i xs) ≡ false
-below_fails count xs i within past =
-    below_step count xs i within ∙ ap (λ b. b && all_below count (drop (i + 1) xs)) (le-ltb _ _ past)
+-- somewhere a number is not below the next
+falls : (least : ℕ) (xs : List ℕ) (k : ℕ) → k + 1 < length xs → false ≡ ltb (get_or xs k 0) (get_or xs (k + 1) 0) → ascends_from least xs ≡ false
+falls least [] k within under = absurd (omega arith)
+falls least (x ∷ []) k within under = absurd (omega arith)
+falls least (x ∷ y ∷ ys) zero within under =
+    ap (λ b. leb least x && (b && ascends_from (suc y) ys)) (sym under) ∙ and-false (leb least x)
+falls least (x ∷ y ∷ ys) (suc k) within under =
+    let later : ascends_from (suc x) (y ∷ ys) ≡ false = falls (suc x) (y ∷ ys) k (omega arith) (simp unary_clauses (simp unary_clauses at under)) in
+    ap (λ b. leb least x && b) later ∙ and-false (leb least x)
 
-pub ascends_step : (least : ℕ) (xs : List ℕ) (i : ℕ) → i < length xs → ascends_from least (drop i xs) ≡ (leb least (get_or xs i 0) && ascends_from (suc (get_or xs i 0)) (drop (i + 1) xs))
-ascends_step least xs i within = at_drop_more (ascends_from least) xs i 0 within
-
-pub ascends_passes : (least : ℕ) (xs : List ℕ) (i : ℕ) → i < length xs → least ≤ get_or xs i 0 → ascends_from (get_or xs i 0 + 1) (drop (i + 1) xs) ≡ ascends_from least (drop i xs)
-ascends_passes least xs i within above =
-    ap (λ n. ascends_from n (drop (i + 1) xs)) (add-one (get_or xs i 0))
-    ∙ sym (ascends_step least xs i within ∙ ap (λ b. b && ascends_from (suc (get_or xs i 0)) (drop (i + 1) xs)) (le-leb _ _ above))
-
-pub ascends_fails : (least : ℕ) (xs : List ℕ) (i : ℕ) → i < length xs → get_or xs i 0 < least → ascends_from least (drop i xs) ≡ false
-ascends_fails least xs i within under =
-    ascends_step least xs i within ∙ ap (λ b. b && ascends_from (suc (get_or xs i 0)) (drop (i + 1) xs)) (lt-leb _ _ under)
-
--- a front of one list is copied, one element more
-pub front_copied : (to from : List ℕ) (i : ℕ) → i < length to → i < length from → take i to ≡ take i from → take (i + 1) (set to i (get_or from i 0)) ≡ take (i + 1) from
-front_copied to from i within within' front =
-    take_more_set to i (get_or from i 0) within ∙ ap (λ xs. xs ++ (get_or from i 0 ∷ [])) front ∙ sym (take_more from i 0 within')
-
-pub all_copied : (to from : List ℕ) (i : ℕ) → i ≡ length from → take i to ≡ take i from → take (length from) to ≡ from
-all_copied to from i whole front =
-    ap (λ n. take n to) (sym whole) ∙ front ∙ take_all i from (omega arith)
+pub ascends_stepwise : (xs : List ℕ) (answer : Bool) → IsAllAdjacentAnswer (λ x y b. b ≡ ltb x y) xs answer → answer ≡ ascending xs
+ascends_stepwise [] true steps = refl
+ascends_stepwise (x ∷ xs) true steps = sym (rises 0 x xs (omega arith) steps)
+ascends_stepwise xs false steps = sym (falls 0 xs steps.0 steps.1 (steps.2 0))

@@ -1,2 +1,3 @@
 pub mod Checks
+pub mod Pieces
 pub mod Examples

@@ -2,16 +2,17 @@
 use Rattle.std.specs.Prelude.{◌≡◌, ℕ, ◌+◌, ◌*◌, ◌/◌, min, Bool, true, false, cond, not, ◌&&◌, ◌||◌, List, [], ◌∷◌, map, length, is_some, Some, None, Option, ◌==◌, nat_le, nat_lt, slice_index, slice_index_or}
 use Rattle.std.specs.List.{range_with_len}
 use Rattle.orders.specs.declared.clauses.Change.{Change}
-use Rattle.orders.specs.declared.clauses.Change.TheVariants.{Set, CopyOf, Add, Unknown}
+use Rattle.orders.specs.declared.clauses.Change.TheVariants.{Set, CopyOf, Add}
 use Rattle.orders.specs.declared.clauses.Clause.{Clause}
 use Rattle.orders.specs.Bytes.{number_at}
 use Rattle.orders.specs.Rulebooks.{Rules}
 
-abbrev pub change_of : (form number : ℕ) → Change
+-- None where no lawful clause has the form
+abbrev pub change_of : (form number : ℕ) → Option Change
 change_of form number =
-    cond (form == 1) (Set number)
-    (cond (form == 2) (CopyOf number)
-    (cond (form == 3) (Add number) Unknown))
+    cond (form == 1) (Some (Set number))
+    (cond (form == 2) (Some (CopyOf number))
+    (cond (form == 3) (Some (Add number)) None))
 
 -- a clause is a target, a form and a number of four bytes
 abbrev pub clause_at : List ℕ → (index : ℕ) → Clause
@@ -20,15 +21,19 @@ clause_at order index = record {
   change = change_of (slice_index order (6 * index + 1)) (number_at order (6 * index + 2));
 }
 
+-- the clause in six bytes of its own
+abbrev pub clause_of : List ℕ → Clause
+clause_of bytes = clause_at bytes 0
+
 -- the whole clauses of an order
 abbrev pub clauses : List ℕ → List Clause
 clauses order = map (clause_at order) (range_with_len 0 (length order / 6))
 
-abbrev pub change_lawful : (n : ℕ) → Change → Bool
-change_lawful n (Set number) = nat_le number 999999999
-change_lawful n (CopyOf position) = nat_lt position n
-change_lawful n (Add number) = true
-change_lawful n Unknown = false
+abbrev pub change_lawful : (n : ℕ) → Option Change → Bool
+change_lawful n None = false
+change_lawful n (Some (Set number)) = nat_le number 999999999
+change_lawful n (Some (CopyOf position)) = nat_lt position n
+change_lawful n (Some (Add number)) = true
 
 abbrev pub clause_lawful : (n : ℕ) → Clause → Bool
 clause_lawful n clause = nat_lt clause.target n && change_lawful n clause.change
@@ -57,11 +62,11 @@ abbrev pub assignment_mask : List ℕ → ℕ → List Bool
 assignment_mask order n = map (λ position. is_some (clause_for position (clauses order))) (range_with_len 0 n)
 
 -- what a change makes of a position
-abbrev pub changed : List ℕ → (position : ℕ) → Change → ℕ
-changed olds position (Set number) = number
-changed olds position (CopyOf from) = slice_index olds from
-changed olds position (Add number) = min (slice_index olds position + number) 999999999
-changed olds position Unknown = slice_index olds position
+abbrev pub changed : List ℕ → (position : ℕ) → Option Change → ℕ
+changed olds position None = slice_index olds position
+changed olds position (Some (Set number)) = number
+changed olds position (Some (CopyOf from)) = slice_index olds from
+changed olds position (Some (Add number)) = min (slice_index olds position + number) 999999999
 
 -- what the clause for a position, if there is one, makes of it
 abbrev pub value_after : List ℕ → (position : ℕ) → Option Clause → ℕ

@@ -1,4 +1,5 @@
 pub mod Ascending
+pub mod Fixed
 pub mod Kept
 pub mod Lists
 pub mod Bytes

@@ -1,9 +1,10 @@
 -- Which lists of object numbers are lawful. Assumes nothing.
-use Rattle.std.specs.Prelude.{ℕ, Bool, true, cond, not, ◌&&◌, ◌||◌, List, [], ◌∷◌, length, take, Some, None, Option, ◌==◌, nat_lt}
+use Rattle.std.specs.Prelude.{ℕ, Bool, true, cond, not, ◌&&◌, ◌||◌, List, [], ◌∷◌, length, Some, None, Option, ◌==◌, nat_lt}
 use Rattle.orders.specs.declared.faults.ListFault.{ListFault}
 use Rattle.orders.specs.declared.faults.ListFault.TheVariants.{Length, Object, Order}
 use Rattle.orders.specs.declared.list.ObjectList.{ObjectList}
 use Rattle.orders.specs.Ascending.{ascending}
+use Rattle.orders.specs.Fixed.{fixed_items}
 
 abbrev pub list_fault_number : ListFault → ℕ
 list_fault_number Length = 2
@@ -27,4 +28,4 @@ list_fault count xs =
 
 -- the objects of a list in the register's keeping
 abbrev pub objects_of : ObjectList → List ℕ
-objects_of l = take l.count l.objects
+objects_of l = fixed_items l.objects

@@ -1,13 +1,12 @@
 -- Transfer orders keep the laws of a rulebook. Assumes nothing.
-use Rattle.std.specs.Prelude.{◌≡◌, ℕ, ◌+◌, ◌^◌, ◌<◌, ◌≤◌, true, false, cond, not, ◌&&◌, List, length, get_or, Some, None, Option, ◌==◌, nat_lt, slice_index, slice_index_or, refl}
-use Rattle.std.proofs.Common.{ap, sym, ◌∙◌, ⊎_elim, arith}
+use Rattle.std.specs.Prelude.{◌≡◌, ℕ, ◌+◌, ◌^◌, ◌<◌, true, false, not, ◌&&◌, List, length, get_or, Some, None, Option, ◌==◌, nat_lt, slice_index, slice_index_or, refl}
+use Rattle.std.proofs.Common.{ap, sym, ◌∙◌, arith}
 use Rattle.std.proofs.lemmas.List.FromFn.{length-map-range_with_len}
-use Rattle.std.proofs.lemmas.List.{get_or_past}
-use Rattle.std.proofs.lemmas.Bool.{and_parts, cases_lt, cond_both, cond-true, cond-false, eq-eqb, eqb-true, lt-ltb, le-ltb, ltb-true, or_left, or_parts, true≢false}
+use Rattle.std.proofs.lemmas.Bool.{and_parts, cond_both, cond-false, eq-eqb, eqb-true, ltb-true, or_left, or_parts, true≢false}
 use Rattle.orders.specs.declared.movement.Movement.{Movement}
 use Rattle.orders.specs.Rulebooks.{RulebookLaws}
 use Rattle.orders.specs.Transfers.{MovementSettles, moved, movement_lawful, movement_of, movement_writes, transfer_lawful, transfer_mask, transfer_news, value_moved}
-use Rattle.orders.specs.Tabulated.{tabulated_at}
+use Rattle.orders.specs.Tabulated.{tabulated_at, tabulated_below, tabulated_fits, tabulated_keeps}
 
 pub movement_settles : (order : List ℕ) → MovementSettles order (movement_of order)
 movement_settles order = record {
@@ -31,7 +30,7 @@ writes_something order n lawful =
     let found = writes_giver n (movement_of order) lawful in (
       found.0,
       found.1,
-      (movement_settles order).written n found.0 ∙ cond-true (nat_lt found.0 n) (movement_writes found.0 (movement_of order)) false (lt-ltb found.0 n found.1) ∙ found.2,
+      tabulated_below (λ p. movement_writes p (movement_of order)) n found.0 false found.1 ∙ found.2,
     )
 
 -- what is neither giver nor taker stays
@@ -40,19 +39,6 @@ stays olds position None unwritten = refl
 stays olds position (Some m) unwritten =
     let parts = or_parts (position == m.giver) (position == m.taker) unwritten in
     cond-false (position == m.giver) _ _ parts.0 ∙ cond-false (position == m.taker) _ _ parts.1
-
-keeps_unwritten : (order olds : List ℕ) (p : ℕ) → slice_index_or (transfer_mask order (length olds)) p false ≡ false → slice_index (transfer_news order olds) p ≡ slice_index olds p
-keeps_unwritten order olds p unwritten =
-    ⊎_elim
-    (λ (h : p < length olds).
-    (movement_settles order).becomes olds p
-    ∙ cond-true (nat_lt p (length olds)) (value_moved olds p (movement_of order)) 0 (lt-ltb p (length olds) h)
-    ∙ stays olds p (movement_of order) (sym ((movement_settles order).written (length olds) p ∙ cond-true (nat_lt p (length olds)) (movement_writes p (movement_of order)) false (lt-ltb p (length olds) h)) ∙ unwritten))
-    (λ (h : length olds ≤ p).
-    (movement_settles order).becomes olds p
-    ∙ cond-false (nat_lt p (length olds)) (value_moved olds p (movement_of order)) 0 (le-ltb p (length olds) h)
-    ∙ sym (get_or_past olds p 0 h))
-    (cases_lt p (length olds))
 
 taker_fits : (olds : List ℕ) (position : ℕ) (m : Movement) → slice_index olds position < 2 ^ 32 → position ≡ m.taker → slice_index olds position + moved olds m < 2 ^ 32
 taker_fits olds position m fits same =
@@ -65,17 +51,17 @@ value_fits olds position (Some m) fits =
     (λ _. omega arith)
     (λ _. cond_both (position == m.taker) _ _ (λ v. v < 2 ^ 32) (λ same. taker_fits olds position m fits (eqb-true position m.taker same)) (λ _. fits))
 
+keeps_unwritten : (order olds : List ℕ) (p : ℕ) → slice_index_or (transfer_mask order (length olds)) p false ≡ false → slice_index (transfer_news order olds) p ≡ slice_index olds p
+keeps_unwritten order olds = tabulated_keeps olds (λ p. movement_writes p (movement_of order)) (λ p. value_moved olds p (movement_of order)) (λ p. stays olds p (movement_of order))
+
 news_fit : (order olds : List ℕ) → ((p : ℕ) → slice_index olds p < 2 ^ 32) → (p : ℕ) → slice_index (transfer_news order olds) p < 2 ^ 32
-news_fit order olds fits p =
-    let there : cond (nat_lt p (length olds)) (value_moved olds p (movement_of order)) 0 < 2 ^ 32 =
-    cond_both (nat_lt p (length olds)) (value_moved olds p (movement_of order)) 0 (λ v. v < 2 ^ 32) (λ _. value_fits olds p (movement_of order) (fits p)) (λ _. omega arith) in
-    rw ((movement_settles order).becomes olds p) there
+news_fit order olds fits = tabulated_fits (λ p. value_moved olds p (movement_of order)) (length olds) (λ p. value_fits olds p (movement_of order) (fits p))
 
 pub transfer_laws : RulebookLaws transfer_lawful transfer_mask transfer_news
 transfer_laws = record {
   mask_has_each_position = λ order n. length-map-range_with_len (λ p. movement_writes p (movement_of order)) 0 n;
   lawful_order_writes = writes_something;
   as_many_news_as_olds = λ order olds. length-map-range_with_len (λ p. value_moved olds p (movement_of order)) 0 (length olds);
-  unwritten_keeps_its_value = λ order olds lawful p unwritten. keeps_unwritten order olds p unwritten;
-  news_fit_where_olds_fit = λ order olds lawful fits p. news_fit order olds fits p;
+  unwritten_keeps_its_value = λ order olds lawful. keeps_unwritten order olds;
+  news_fit_where_olds_fit = λ order olds lawful. news_fit order olds;
 }

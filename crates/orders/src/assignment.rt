@@ -3,7 +3,6 @@ ghost use Rattle.std.specs.Prelude.{◌≡◌, length};
 ghost use Rattle.orders.specs.Assignments.{assignment_lawful, assignment_mask, assignment_news, length_lawful};
 ghost use Rattle.orders.specs.AssignmentLaws.{assignment_laws};
 
-use crate::bytes::value_at;
 use crate::clauses::{all_are_lawful, find_clause, targets_differ};
 use crate::rulebook::Rulebook;
 
@@ -36,13 +35,10 @@ impl Rulebook for Assignment {
 
     // Each clause reads the old values, and not what another clause makes of them.
     fn new_value(&self, order: &[u8], olds: &[u32], position: usize) -> u32 {
-        let found = find_clause(order, position);
-        if position >= olds.len() {
+        let change = find_clause(order, position).and_then(|clause| clause.change);
+        let Some(&old) = olds.get(position) else {
             return 0;
-        }
-        match found {
-            Some(clause) => clause.change.applied(olds, position),
-            None => value_at(olds, position),
-        }
+        };
+        change.map_or(old, |change| change.applied(olds, position))
     }
 }

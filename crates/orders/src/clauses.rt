@@ -1,10 +1,8 @@
 // The clauses of an assignment order: six bytes each, for a target, a form and a number.
-ghost use Rattle.std.specs.Prelude.{◌≡◌, ◌/◌, ◌<◌, length, drop};
-ghost use Rattle.orders.specs.Assignments.{Settles, change_lawful, change_of, changed, clause_at, clause_for, clause_lawful, clauses, clauses_lawful, targets_differ};
+ghost use Rattle.std.specs.Prelude.{◌≡◌, Some, length, map};
+ghost use Rattle.orders.specs.Assignments.{Settles, change_lawful, change_of, changed, clause_for, clause_lawful, clause_of, clauses, clauses_lawful, targets_differ};
 
-use crate::bytes::{number_at, value_at};
-
-const CLAUSE_LENGTH: usize = 6;
+use crate::values::value_at;
 
 // The largest value that a clause sets or adds up to.
 const LARGEST: u32 = 999_999_999;
@@ -16,42 +14,39 @@ pub(crate) enum Change {
     CopyOf(u32),
     // up to the largest value
     Add(u32),
-    // a form that no lawful clause has
-    Unknown,
 }
 
 impl Change {
-    fn from_form(form: u8, number: u32) -> Change
+    // A match on the form's byte, as the format lists them; a conversion takes one value, and this takes two.
+    fn from_form(form: u8, number: u32) -> Option<Change>
         ensures { result ≡ change_of form number }
     {
         match form {
-            1 => Change::Set(number),
-            2 => Change::CopyOf(number),
-            3 => Change::Add(number),
-            _ => Change::Unknown,
+            1 => Some(Change::Set(number)),
+            2 => Some(Change::CopyOf(number)),
+            3 => Some(Change::Add(number)),
+            _ => None,
         }
     }
 
     fn is_lawful(self, count: usize) -> bool
-        ensures { result ≡ change_lawful count self }
+        ensures { result ≡ change_lawful count (Some self) }
     {
         match self {
             Change::Set(number) => number <= LARGEST,
             Change::CopyOf(position) => (position as usize) < count,
             Change::Add(_) => true,
-            Change::Unknown => false,
         }
     }
 
     // What the change makes of a position.
     pub(crate) fn applied(self, olds: &[u32], position: usize) -> u32
-        ensures { result ≡ changed olds.now position self }
+        ensures { result ≡ changed olds.now position (Some self) }
     {
         match self {
             Change::Set(number) => number,
             Change::CopyOf(from) => value_at(olds, from as usize),
             Change::Add(number) => value_at(olds, position).saturating_add(number).min(LARGEST),
-            Change::Unknown => value_at(olds, position),
         }
     }
 }
@@ -59,68 +54,73 @@ impl Change {
 #[derive(Clone, Copy)]
 pub(crate) struct Clause {
     target: u8,
-    pub(crate) change: Change,
+    // None where no lawful clause has its form
+    pub(crate) change: Option<Change>,
 }
 
 impl Clause {
-    // The clause of that number, from 0.
-    fn read(order: &[u8], index: usize) -> Clause
-        requires { index < length order.now / 6 }
-        ensures { result ≡ clause_at order.now index }
+    fn read(bytes: &[u8; 6]) -> Clause
+        ensures { result ≡ clause_of bytes.now }
     {
-        let place = CLAUSE_LENGTH * index;
+        let &[target, form, a, b, c, d] = bytes;
         Clause {
-            target: order[place],
-            change: Change::from_form(order[place + 1], number_at(order, place + 2)),
+            target,
+            change: Change::from_form(form, u32::from_le_bytes([a, b, c, d])),
         }
     }
 
     fn is_lawful(self, count: usize) -> bool
         ensures { result ≡ clause_lawful count self }
     {
-        (self.target as usize) < count && self.change.is_lawful(count)
+        usize::from(self.target) < count
+            && self.change.is_some_and(|change| change.is_lawful(count))
     }
 }
 
-// The first clause, from a number on, whose target is the position.
-fn find_from(order: &[u8], from: usize, position: usize) -> Option<Clause>
-    ensures { result ≡ clause_for position (drop from (clauses order.now)) }
+// The bytes of each whole clause.
+#[tactic(auto, using(crate::proofs::Pieces::clauses_by_piece))]
+fn split(order: &[u8]) -> &[[u8; 6]]
+    ensures { map clause_of result.now ≡ clauses order.now }
 {
-    for i in from..order.len() / CLAUSE_LENGTH {
-        let clause = Clause::read(order, i);
-        if clause.target as usize == position {
-            return Some(clause);
-        }
-    }
-    None
+    order.as_chunks().0
+}
+
+// The first of the clauses whose target is the position.
+fn find_among(list: &[[u8; 6]], position: usize) -> Option<Clause>
+    ensures { result ≡ clause_for position (map clause_of list.now) }
+{
+    list.iter()
+        .map(Clause::read)
+        .find(|clause| usize::from(clause.target) == position)
 }
 
 // The clause for a position: it settles whether the order writes the position, and the new value there.
+#[tactic(auto, using(crate::specs::Clausewise::settled))]
 pub(crate) fn find_clause(order: &[u8], position: usize) -> Option<Clause>
     ensures { Settles order.now position result }
 {
-    find_from(order, 0, position)
+    find_among(split(order), position)
 }
 
+// The order and the count stay two arguments, as in every method of a rulebook.
 pub(crate) fn all_are_lawful(order: &[u8], count: usize) -> bool
     ensures { result ≡ clauses_lawful count (clauses order.now) }
 {
-    for i in 0..order.len() / CLAUSE_LENGTH {
-        if !Clause::read(order, i).is_lawful(count) {
-            return false;
-        }
-    }
-    true
+    split(order)
+        .iter()
+        .all(|bytes| Clause::read(bytes).is_lawful(count))
 }
 
+// A loop: each clause is held against those after it, which no adapter passes on.
 pub(crate) fn targets_differ(order: &[u8]) -> bool
     ensures { result ≡ targets_differ (clauses order.now) }
 {
-    for i in 0..order.len() / CLAUSE_LENGTH {
-        let clause = Clause::read(order, i);
-        if find_from(order, i + 1, clause.target as usize).is_some() {
+    let mut rest = split(order);
+    while let [first, later @ ..] = rest {
+        if find_among(later, usize::from(Clause::read(first).target)).is_some() {
             return false;
         }
+        rest = later;
     }
     true
 }

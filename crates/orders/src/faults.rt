@@ -14,7 +14,7 @@ pub enum ListFault {
 }
 
 impl ListFault {
-    // The answer number that stands for this fault.
+    // The answer number that stands for this fault. The numbers are the protocol's, and stand in this one place.
     pub fn number(self) -> u8
         ensures { result ≡ list_fault_number self }
     {

@@ -2,18 +2,19 @@
 #![tactic(auto)]
 
 pub mod assignment;
-mod bytes;
 mod clauses;
 pub mod faults;
+pub mod fixed;
 pub mod list;
 mod movement;
 pub mod order;
-mod padding;
 pub mod rulebook;
 pub mod transfer;
+mod values;
 
 pub use assignment::Assignment;
 pub use faults::ListFault;
+pub use fixed::FixedVec;
 pub use list::ObjectList;
 pub use order::Order;
 pub use rulebook::Rulebook;

@@ -13,6 +13,7 @@ pub trait Rulebook {
     // The new values, from the order and the old values.
     ghost news: { List ℕ → List ℕ → List ℕ };
 
+    // An order, a count, old values and a position are what a caller has at hand, and no two of them are one thing.
     fn is_lawful(&self, order: &[u8], count: usize) -> bool
         ensures { result ≡ lawful order.now count };
 

@@ -2,7 +2,7 @@
 ghost use Rattle.orders.specs.Transfers.{transfer_lawful, transfer_mask, transfer_news};
 ghost use Rattle.orders.specs.TransferLaws.{transfer_laws};
 
-use crate::movement::{find_movement, is_movement_lawful, is_written, value_moved};
+use crate::movement::Movement;
 use crate::rulebook::Rulebook;
 
 #[derive(Clone, Copy)]
@@ -18,18 +18,18 @@ impl Rulebook for Transfer {
     ghost kept = { transfer_laws };
 
     fn is_lawful(&self, order: &[u8], count: usize) -> bool {
-        is_movement_lawful(find_movement(order), count)
+        Movement::read(order).is_some_and(|movement| movement.is_lawful(count))
     }
 
     fn writes(&self, order: &[u8], count: usize, position: usize) -> bool {
-        is_written(find_movement(order), position) && position < count
+        Movement::read(order).is_some_and(|movement| movement.writes(position)) && position < count
     }
 
     fn new_value(&self, order: &[u8], olds: &[u32], position: usize) -> u32 {
-        let found = find_movement(order);
-        if position >= olds.len() {
+        let found = Movement::read(order);
+        let Some(&old) = olds.get(position) else {
             return 0;
-        }
-        value_moved(found, olds, position)
+        };
+        found.map_or(old, |movement| movement.value_after(olds, position))
     }
 }

@@ -1,19 +1,12 @@
-use Rattle.std.proofs.Common.{sym, ap, ◌∙◌}
-use Rattle.orders.specs.Assignments.{clause_lawful, clauses_lawful}
-use Rattle.orders.specs.Clausewise.{clauses_all, lawful_passes, lawful_fails}
+use Rattle.std.proofs.Common.{rules, tests, ap, ◌∙◌}
+use Rattle.std.proofs.lemmas.Iterator.{YieldsList-from_slice}
+use Rattle.std.proofs.lemmas.Iterator.Search.{all_from_yields_List}
+use Rattle.orders.specs.Assignments.{clause_lawful, clause_of, clauses_lawful}
+use Rattle.orders.proofs.Pieces.{lawful_as_all}
 use Rattle.orders.proofs.clauses.all_are_lawful.Goals as goal
-
-pub returns-then-not-is_lawful : goal.returns-then-not-is_lawful
-returns-then-not-is_lawful c =
-    sym (lawful_fails c.args.count c.args.order.now c.loop-i.i c.loop-i-test.true (sym (ap (clause_lawful c.args.count) c.read.ensures) ∙ sym c.is_lawful.ensures ∙ c.if-not-is_lawful.true))
-    ∙ c.loop-i.invariant
-
-pub loop-i-preserved : goal.loop-i-preserved
-loop-i-preserved c =
-    lawful_passes c.args.count c.args.order.now c.loop-i.i c.loop-i-test.true (sym (ap (clause_lawful c.args.count) c.read.ensures) ∙ sym c.is_lawful.ensures ∙ c.if-not-is_lawful.false)
-    ∙ c.loop-i.invariant
 
 pub returns : goal.returns
 returns c =
-    sym (clauses_all (clauses_lawful c.args.count) c.args.order.now c.loop-i.i c.loop-i-test.false)
-    ∙ c.loop-i.invariant
+    all_from_yields_List (λ piece. clause_lawful c.args.count (clause_of piece)) _ _ _ c.all.ensures.ran (YieldsList-from_slice c.split.result.now (cc)) (λ x b q k. search (rules, tests))
+    ∙ lawful_as_all c.args.count c.split.result.now
+    ∙ ap (clauses_lawful c.args.count) c.split.ensures

@@ -1,7 +1,10 @@
-use Rattle.std.proofs.Common.{◌≡◌, drop}
-use Rattle.orders.specs.Assignments.{clauses, targets_differ}
+use Rattle.std.proofs.Common.{◌≡◌, length, map}
+use Rattle.orders.specs.Assignments.{clause_of, clauses, targets_differ}
 use Rattle.orders.proofs.clauses.targets_differ.Given as goal
 
 -- what is left decides
-abbrev pub invariant-loop-i : goal.invariant-loop-i
-invariant-loop-i l = targets_differ (drop l.i (clauses l.order)) ≡ targets_differ (clauses l.order)
+abbrev pub invariant-loop-rest : goal.invariant-loop-rest
+invariant-loop-rest l = targets_differ (map clause_of l.rest) ≡ targets_differ (clauses l.order)
+
+abbrev pub decreases-loop-rest : goal.decreases-loop-rest
+decreases-loop-rest l = length l.rest
