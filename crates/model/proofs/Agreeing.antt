@@ -1,5 +1,6 @@
 -- Copies and ledger: they agree but where a committed transaction is not carried out yet. Assumes nothing.
-use Rattle.std.proofs.Common.{◌≡◌, ℕ, ◌<◌, true, false, ◌≢◌, List, length, get_or, sym, refl, ap, ◌∙◌, subst, inl, inr, arith}
+use Rattle.std.proofs.Common.{◌≡◌, ℕ, ◌<◌, true, false, ◌≢◌, List, length, get_or, sym, refl, ap, ◌∙◌, subst, inl, inr}
+use Rattle.std.proofs.lemmas.List.{length-map}
 use Rattle.std.proofs.lemmas.Bool.{cases_eq, cases_Bool, both_ways}
 use Rattle.orders.specs.Lists.{all_below}
 use Rattle.orders.specs.Rulebooks.{Rules}
@@ -12,7 +13,7 @@ use Rattle.model.specs.Statuses.{is_holding, after_up}
 use Rattle.model.proofs.Changes.{at_same, at_other, at_cases}
 use Rattle.model.proofs.Courses.{Listing, course_of}
 use Rattle.model.proofs.Orderly.{Orderly, Holds, Apart}
-use Rattle.model.proofs.Values.{length_replaced, replaced_other, picked_replaced, length_picked, picked_same, same_picked, listed_below}
+use Rattle.model.proofs.Values.{length_replaced, replaced_other, picked_replaced, picked_same, same_picked, listed_below}
 
 pub record Agree (rules : Rules) (m n : ℕ) (d : Docket) (copy : ℕ → List ℕ) (ledger : List ℕ) : Type 0 where
   pub copies : (s o : ℕ) → s < m → o < n → ((t : ℕ) → Owing (d t) s → listed o (d t).objects ≡ true → ⊥) → get_or (copy s) o 0 ≡ get_or ledger o 0
@@ -103,7 +104,7 @@ module _ {rules : Rules} {m n : ℕ} (count : (order olds : List ℕ) → length
   picked_carried values long =
       picked_replaced 0 values os (rules.news (d t).order (picked values os)) listing.ascends
       (subst (λ (k : ℕ). all_below k os ≡ true) (sym long) listing.below)
-      (count (d t).order (picked values os) ∙ length_picked values os)
+      (count (d t).order (picked values os) ∙ length-map os (λ o. get_or values o 0))
 
   carried_other : (values : List ℕ) (o : ℕ) → listed o os ≡ false → get_or (carried values) o 0 ≡ get_or values o 0
   carried_other values o out = replaced_other values os (rules.news (d t).order (picked values os)) o out
@@ -139,7 +140,7 @@ module _ {rules : Rules} {m n : ℕ} (count : (order olds : List ℕ) → length
       holds s within = ap is_holding (all s within)
 
       not_owing : (s : ℕ) → Owing (d t) s → ⊥
-      not_owing s owes = let z : ◌≡◌ {A = ℕ} 0 1 = cc owes.committed in omega arith
+      not_owing s owes = cc owes.committed
 
       -- before the commit the copies agree with the ledger on the list
       agreed : (s : ℕ) → s < m → picked (copy s) os ≡ picked ledger os

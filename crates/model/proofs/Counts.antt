@@ -1,6 +1,6 @@
 -- Tests and sums over the numbers below a bound, and lists of checks. Assumes nothing.
 use Rattle.std.proofs.Common.{◌≡◌, ℕ, zero, suc, ◌+◌, ◌<◌, ◌≤◌, Bool, true, false, ◌≢◌, List, ◌∷◌, sym, refl, ap, ◌∙◌, inl, inr, add-one, arith}
-use Rattle.std.proofs.lemmas.Bool.{cases_eq, cases_Bool, both_ways, or_parts}
+use Rattle.std.proofs.lemmas.Bool.{cases_Bool, cases_eq, both_ways, or_parts}
 use Rattle.std.proofs.lemmas.Bool.Decides.{Decides-below_and}
 use Rattle.model.specs.Checks.{Check, first, all_to}
 use Rattle.model.specs.Orders.{any_to, sum_to}
@@ -19,16 +19,15 @@ any_to_none (suc n) test e k below =
       | inr other ↦ let less : k < n = omega arith in any_to_none n test (or_parts (test n) (any_to n test) e).1 k less
     ]
 
--- loops that test every number below a bound
+-- one number more, and a number that fails
 pub passes_more : (test : ℕ → Bool) (k : ℕ) → all_to k test ≡ true → test k ≡ true → all_to (k + 1) test ≡ true
 passes_more test k so_far here = ap (λ n. all_to n test) (add-one k) ∙ cc
 
 pub fails_at : (n : ℕ) (test : ℕ → Bool) (k : ℕ) → k < n → test k ≡ false → false ≡ all_to n test
-fails_at n test k within fails =
-    elim (cases_Bool (all_to n test)) [
-      | inl all ↦ absurd (both_ways (test k) fails ((Decides-below_and test (λ j. test j ≡ true) (λ m. all_to m test) (λ j. ((λ e. e), (λ e. e))) refl (λ _. refl) n).0 all k within))
-      | inr some ↦ sym some
-    ]
+fails_at n test k within fails = elim (cases_Bool (all_to n test)) [
+  | inl all ↦ absurd (both_ways (test k) fails (all_to_each n test all k within))
+  | inr some ↦ sym some
+]
 
 -- where no check fails, the first does not, if its number is not 0
 pub first_passes : (check : Check) (rest : List Check) → (check.0 ≡ 0 → ⊥) → first (check ∷ rest) ≡ 0 → (check.1 ≡ false) × (first rest ≡ 0)

@@ -35,6 +35,23 @@ pub record Good (m n : ℕ) (e : Entry) : Type 0 where
 outside_at : (m : ℕ) (f : ℕ → Status) (s : ℕ) (x : Status) → s < m → ((k : ℕ) → m ≤ k → f k ≡ None) → (k : ℕ) → m ≤ k → at f s x k ≡ None
 outside_at m f s x within out k past = at_other f s x k (λ e. omega arith) ∙ out k past
 
+-- a status that is not applied does not become so where another is put
+none_applied : (f : ℕ → Status) (s : ℕ) (x : Status) → x ≢ Applied → ((k : ℕ) → f k ≢ Applied) → (k : ℕ) → at f s x k ≢ Applied
+none_applied f s x other none k applied = elim (at_cases f s x k) [
+  | inl here ↦ other (sym here.1 ∙ applied)
+  | inr there ↦ none k (sym there.1 ∙ applied)
+]
+
+-- a status stays what it was where the same is put, or it comes up unchanged
+kept : (f : ℕ → Status) (s : ℕ) (x : Status) (k : ℕ) (y : Status) → x ≡ y → f k ≡ y → at f s x k ≡ y
+kept f s x k y same was = elim (at_cases f s x k) [ inl here ↦ here.1 ∙ same | inr there ↦ there.1 ∙ was ]
+
+raised_kept : (f : ℕ → Status) (s k : ℕ) (y : Status) → after_up y ≡ y → f k ≡ y → at f s (after_up (f s)) k ≡ y
+raised_kept f s k y stays was = elim (at_cases f s (after_up (f s)) k) [
+  | inl here ↦ here.1 ∙ ap (λ j. after_up (f j)) (sym here.0) ∙ ap after_up was ∙ stays
+  | inr there ↦ there.1 ∙ was
+]
+
 pub good_blank : (m n : ℕ) → Good m n blank
 good_blank m n = record { outside = λ k past. refl; course = λ k. refl; listing = λ used. absurd (used refl) }
 
@@ -59,31 +76,16 @@ module _ {m n : ℕ} (e : Entry) (good : Good m n e) where
   good_same y s x is used within course =
       good_moved e.standing s x within (used_by y is used) (subst (λ (z : Standing). Course m z e.coordinator (at e.status s x)) (sym is) course)
 
-  undecided_used : Undecided ≢ Absent
-  undecided_used e = let z : ◌≡◌ {A = ℕ} 0 1 = cc in omega arith
-
-  committed_used : Committed ≢ Absent
-  committed_used e = let z : ◌≡◌ {A = ℕ} 0 1 = cc in omega arith
-
-  aborted_used : Aborted ≢ Absent
-  aborted_used e = let z : ◌≡◌ {A = ℕ} 0 1 = cc in omega arith
+  unapplied : e.standing ≡ Undecided → (k : ℕ) → e.status k ≢ Applied
+  unapplied is k applied = elim (course_of Undecided is) [
+    | inl none ↦ cc (none k)
+    | inr p ↦ p.1 k applied
+  ]
 
   -- once the coordinator has promised, another machine may take any status but applied
   vote : (s : ℕ) (x : Status) → e.standing ≡ Undecided → s < m → s ≢ e.coordinator → e.status e.coordinator ≡ Promised → x ≢ Applied → Good m n (moved e e.standing s x)
   vote s x is within apart promised other =
-      good_same Undecided s x is undecided_used within (inr (at_other e.status s x e.coordinator (λ e'. apart (sym e')) ∙ promised, none_applied))
-    where
-      unapplied : (k : ℕ) → e.status k ≢ Applied
-      unapplied k applied = elim (course_of Undecided is) [
-        | inl none ↦ let z : ◌≡◌ {A = ℕ} 0 1 = cc (none k) in absurd (omega arith)
-        | inr p ↦ p.1 k applied
-      ]
-
-      none_applied : (k : ℕ) → at e.status s x k ≢ Applied
-      none_applied k applied = elim (at_cases e.status s x k) [
-        | inl here ↦ other (sym here.1 ∙ applied)
-        | inr there ↦ unapplied k (sym there.1 ∙ applied)
-      ]
+      good_same Undecided s x is (λ q. cc) within (inr (at_other e.status s x e.coordinator (λ e'. apart (sym e')) ∙ promised, none_applied e.status s x other (unapplied is)))
 
   -- a status that is not none shows that the coordinator has promised
   promised_first : (s : ℕ) → e.standing ≡ Undecided → e.status s ≢ None → e.status e.coordinator ≡ Promised
@@ -91,59 +93,35 @@ module _ {m n : ℕ} (e : Entry) (good : Good m n e) where
 
   pub good_issue : e.standing ≡ Undecided → e.coordinator < m → e.status e.coordinator ≡ None → Good m n (moved e e.standing e.coordinator Promised)
   good_issue is within none =
-      good_same Undecided e.coordinator Promised is undecided_used within (inr (at_same e.status e.coordinator Promised, unapplied))
-    where
-      before : (k : ℕ) → e.status k ≢ Applied
-      before k applied = elim (course_of Undecided is) [
-        | inl all ↦ let z : ◌≡◌ {A = ℕ} 0 1 = cc (all k) in absurd (omega arith)
-        | inr p ↦ p.1 k applied
-      ]
-
-      unapplied : (k : ℕ) → at e.status e.coordinator Promised k ≢ Applied
-      unapplied k applied = elim (at_cases e.status e.coordinator Promised k) [
-        | inl here ↦ let z : ◌≡◌ {A = ℕ} 0 1 = cc here.1 in absurd (omega arith)
-        | inr there ↦ before k (sym there.1 ∙ applied)
-      ]
+      good_same Undecided e.coordinator Promised is (λ q. cc) within (inr (at_same e.status e.coordinator Promised, none_applied e.status e.coordinator Promised (λ q. cc) (unapplied is)))
 
   pub good_begin : (s : ℕ) → e.standing ≡ Undecided → s < m → s ≢ e.coordinator → e.status e.coordinator ≡ Promised → Good m n (moved e e.standing s Pending)
-  good_begin s is within apart promised = vote s Pending is within apart promised (λ q. let z : ◌≡◌ {A = ℕ} 0 1 = cc in omega arith)
+  good_begin s is within apart promised = vote s Pending is within apart promised (λ q. cc)
 
   pub good_promise : (s : ℕ) → e.standing ≡ Undecided → s < m → s ≢ e.coordinator → e.status s ≡ Pending → Good m n (moved e e.standing s Promised)
   good_promise s is within apart pending =
-      vote s Promised is within apart (promised_first s is (λ q. let z : ◌≡◌ {A = ℕ} 0 1 = cc in omega arith)) (λ q. let z : ◌≡◌ {A = ℕ} 0 1 = cc in omega arith)
+      vote s Promised is within apart (promised_first s is (λ q. cc)) (λ q. cc)
 
   pub good_decline : (s : ℕ) → e.standing ≡ Undecided → s < m → s ≢ e.coordinator → e.status s ≡ Pending → Good m n (moved e e.standing s Dropped)
   good_decline s is within apart pending =
-      vote s Dropped is within apart (promised_first s is (λ q. let z : ◌≡◌ {A = ℕ} 0 1 = cc in omega arith)) (λ q. let z : ◌≡◌ {A = ℕ} 0 1 = cc in omega arith)
+      vote s Dropped is within apart (promised_first s is (λ q. cc)) (λ q. cc)
 
   pub good_commit : e.standing ≡ Undecided → e.coordinator < m → ((k : ℕ) → k < m → e.status k ≡ Promised) → Good m n (moved e Committed e.coordinator Applied)
   good_commit is within all =
-      good_moved Committed e.coordinator Applied within (used_by Undecided is undecided_used) (at_same e.status e.coordinator Applied, each)
+      good_moved Committed e.coordinator Applied within (used_by Undecided is (λ q. cc)) (at_same e.status e.coordinator Applied, each)
     where
       each : (k : ℕ) → k < m → (at e.status e.coordinator Applied k ≡ Promised) ⊎ (at e.status e.coordinator Applied k ≡ Applied)
       each k below = elim (at_cases e.status e.coordinator Applied k) [ inl here ↦ inr here.1 | inr there ↦ inl (there.1 ∙ all k below) ]
 
   pub good_abort : e.standing ≡ Undecided → e.coordinator < m → Good m n (moved e Aborted e.coordinator Dropped)
   good_abort is within =
-      good_moved Aborted e.coordinator Dropped within (used_by Undecided is undecided_used) (at_same e.status e.coordinator Dropped, unapplied)
-    where
-      before : (k : ℕ) → e.status k ≢ Applied
-      before k applied = elim (course_of Undecided is) [
-        | inl all ↦ let z : ◌≡◌ {A = ℕ} 0 1 = cc (all k) in absurd (omega arith)
-        | inr p ↦ p.1 k applied
-      ]
-
-      unapplied : (k : ℕ) → at e.status e.coordinator Dropped k ≢ Applied
-      unapplied k applied = elim (at_cases e.status e.coordinator Dropped k) [
-        | inl here ↦ let z : ◌≡◌ {A = ℕ} 0 1 = cc here.1 in absurd (omega arith)
-        | inr there ↦ before k (sym there.1 ∙ applied)
-      ]
+      good_moved Aborted e.coordinator Dropped within (used_by Undecided is (λ q. cc)) (at_same e.status e.coordinator Dropped, none_applied e.status e.coordinator Dropped (λ q. cc) (unapplied is))
 
   pub good_apply : (s : ℕ) → e.standing ≡ Committed → s < m → Good m n (moved e e.standing s Applied)
   good_apply s is within =
       let course = course_of Committed is in
-      good_same Committed s Applied is committed_used within (
-        elim (at_cases e.status s Applied e.coordinator) [ inl here ↦ here.1 | inr there ↦ there.1 ∙ course.0 ],
+      good_same Committed s Applied is (λ q. cc) within (
+        kept e.status s Applied e.coordinator Applied refl course.0,
         λ k below. elim (at_cases e.status s Applied k) [
           | inl here ↦ inr here.1
           | inr there ↦ elim (course.1 k below) [ inl p ↦ inl (there.1 ∙ p) | inr p ↦ inr (there.1 ∙ p) ]
@@ -153,53 +131,17 @@ module _ {m n : ℕ} (e : Entry) (good : Good m n e) where
   pub good_drop : (s : ℕ) → e.standing ≡ Aborted → s < m → Good m n (moved e e.standing s Dropped)
   good_drop s is within =
       let course = course_of Aborted is in
-      good_same Aborted s Dropped is aborted_used within (
-        elim (at_cases e.status s Dropped e.coordinator) [ inl here ↦ here.1 | inr there ↦ there.1 ∙ course.0 ],
-        λ k applied. elim (at_cases e.status s Dropped k) [
-          | inl here ↦ let z : ◌≡◌ {A = ℕ} 0 1 = cc here.1 in absurd (omega arith)
-          | inr there ↦ course.1 k (sym there.1 ∙ applied)
-        ],
-      )
+      good_same Aborted s Dropped is (λ q. cc) within (kept e.status s Dropped e.coordinator Dropped refl course.0, none_applied e.status s Dropped (λ q. cc) course.1)
 
   raised_course : (s : ℕ) → s < m → (y : Standing) (f : ℕ → Status) (c : ℕ) → Course m y c f → Course m y c (at f s (after_up (f s)))
-  raised_course s within Absent f c all = λ k. elim (at_cases f s (after_up (f s)) k) [
-    | inl here ↦ here.1 ∙ ap after_up (all s)
-    | inr there ↦ there.1 ∙ all k
-  ]
-  raised_course s within Undecided f c (inl all) = inl (λ k. elim (at_cases f s (after_up (f s)) k) [
-    | inl here ↦ here.1 ∙ ap after_up (all s)
-    | inr there ↦ there.1 ∙ all k
-  ])
-  raised_course s within Undecided f c (inr p) = inr (
-    elim (at_cases f s (after_up (f s)) c) [
-      | inl here ↦ here.1 ∙ ap (λ k. after_up (f k)) (sym here.0) ∙ ap after_up p.0
-      | inr there ↦ there.1 ∙ p.0
-    ],
-    λ k applied. elim (at_cases f s (after_up (f s)) k) [
-      | inl here ↦ p.1 s (applied_before_up (f s) (sym here.1 ∙ applied))
-      | inr there ↦ p.1 k (sym there.1 ∙ applied)
-    ],
-  )
+  raised_course s within Absent f c all = λ k. raised_kept f s k None refl (all k)
+  raised_course s within Undecided f c (inl all) = inl (λ k. raised_kept f s k None refl (all k))
+  raised_course s within Undecided f c (inr p) = inr (raised_kept f s c Promised refl p.0, none_applied f s (after_up (f s)) (λ q. p.1 s (applied_before_up (f s) q)) p.1)
   raised_course s within Committed f c p = (
-    elim (at_cases f s (after_up (f s)) c) [
-      | inl here ↦ here.1 ∙ ap (λ k. after_up (f k)) (sym here.0) ∙ ap after_up p.0
-      | inr there ↦ there.1 ∙ p.0
-    ],
-    λ k below. elim (at_cases f s (after_up (f s)) k) [
-      | inl here ↦ elim (p.1 s within) [ inl q ↦ inl (here.1 ∙ ap after_up q) | inr q ↦ inr (here.1 ∙ ap after_up q) ]
-      | inr there ↦ elim (p.1 k below) [ inl q ↦ inl (there.1 ∙ q) | inr q ↦ inr (there.1 ∙ q) ]
-    ],
+    raised_kept f s c Applied refl p.0,
+    λ k below. elim (p.1 k below) [ inl q ↦ inl (raised_kept f s k Promised refl q) | inr q ↦ inr (raised_kept f s k Applied refl q) ],
   )
-  raised_course s within Aborted f c p = (
-    elim (at_cases f s (after_up (f s)) c) [
-      | inl here ↦ here.1 ∙ ap (λ k. after_up (f k)) (sym here.0) ∙ ap after_up p.0
-      | inr there ↦ there.1 ∙ p.0
-    ],
-    λ k applied. elim (at_cases f s (after_up (f s)) k) [
-      | inl here ↦ p.1 s (applied_before_up (f s) (sym here.1 ∙ applied))
-      | inr there ↦ p.1 k (sym there.1 ∙ applied)
-    ],
-  )
+  raised_course s within Aborted f c p = (raised_kept f s c Dropped refl p.0, none_applied f s (after_up (f s)) (λ q. p.1 s (applied_before_up (f s) q)) p.1)
 
   pub good_raised : (s : ℕ) → s < m → Good m n (moved e e.standing s (after_up (e.status s)))
   good_raised s within = record {

@@ -1,5 +1,5 @@
 -- Every accepted call keeps the docket in order. Assumes nothing.
-use Rattle.std.proofs.Common.{◌≡◌, ℕ, ◌<◌, Bool, true, false, not, ltb, ◌≢◌, List, [], ◌∷◌, refl, ap, inl, inr, arith}
+use Rattle.std.proofs.Common.{◌≡◌, ℕ, ◌<◌, true, false, not, ltb, ◌≢◌, List, [], ◌∷◌, refl, ap, inl, inr, arith}
 use Rattle.std.proofs.lemmas.Bool.{ltb-true, ltb-false, eqb-false, not-false, false≢true, both_ways}
 use Rattle.orders.specs.Ascending.{ascending}
 use Rattle.orders.specs.Lists.{all_below}
@@ -12,7 +12,7 @@ use Rattle.model.specs.Calls.{Call, start, issue, begin, promise, decline, commi
 use Rattle.model.specs.Checks.{first, checks, all_to, start_checks, issue_checks, begin_checks, promise_checks, decline_checks, commit_checks, abort_checks, apply_checks, drop_checks, clear_checks, no_such_machine, already_up}
 use Rattle.model.specs.Docket.{Entry, Docket, at, blank, moved}
 use Rattle.model.specs.Orders.{transactions}
-use Rattle.model.specs.Statuses.{is_absent, is_undecided, is_committed, is_aborted, is_none, is_pending, is_promised, is_holding}
+use Rattle.model.specs.Statuses.{is_absent, is_promised, is_holding}
 use Rattle.model.specs.Steps.{docket_after, started}
 use Rattle.model.specs.World.{World, machines, objects}
 use Rattle.model.proofs.Counts.{all_to_each}
@@ -22,16 +22,13 @@ use Rattle.model.proofs.Orderly.{Orderly, Holds, Apart, orderly_at, orderly_rais
 use Rattle.model.proofs.Passed.{Passed, passed}
 
 -- tests that were passed, as facts
-pub test_holds : (b : Bool) → not b ≡ false → b ≡ true
-test_holds b e = not-false b e
-
 pub in_range : (t : ℕ) → ltb 63 t ≡ false → t < transactions
 in_range t e = let low = ltb-false 63 t e in omega arith
 
 pub there : (s m : ℕ) → not (ltb s m) ≡ false → s < m
 there s m e = ltb-true s m (not-false (ltb s m) e)
 
-used : (e : Entry) → is_absent e.standing ≡ false → e.standing ≢ Absent
+pub used : (e : Entry) → is_absent e.standing ≡ false → e.standing ≢ Absent
 used e some absent = both_ways (is_absent e.standing) some (ap is_absent absent)
 
 module _ (rules : Rules) (w : World) (orderly : Orderly (machines w) (objects w) w.docket) where
@@ -64,60 +61,60 @@ module _ (rules : Rules) (w : World) (orderly : Orderly (machines w) (objects w)
   issue_step : (t : ℕ) → Passed (issue_checks rules w t (d t)) → Next (at d t (moved (d t) (d t).standing (d t).coordinator Promised))
   issue_step t p =
       let good = orderly.good t in
-      let is = undecided_known (d t).standing (test_holds (is_undecided (d t).standing) p.1.1.0) in
+      let is = undecided_known (d t).standing p.1.1.0 in
       taken t (d t).coordinator Promised (in_range t p.0)
-      (good_issue (d t) good is (good.listing (used (d t) p.1.0)).coordinator (none_known _ (not-false (is_none ((d t).status (d t).coordinator)) p.1.1.1.0)))
+      (good_issue (d t) good is (good.listing (used (d t) p.1.0)).coordinator (none_known _ p.1.1.1.0))
       (λ t' other holds. not_held d orderly (d t).coordinator (d t).objects p.1.1.1.1.1.0 t' holds)
 
   begin_step : (t s : ℕ) → Passed (begin_checks w t s (d t)) → Next (at d t (moved (d t) (d t).standing s Pending))
   begin_step t s p =
       let good = orderly.good t in
       taken t s Pending (in_range t p.0)
-      (good_begin (d t) good s (undecided_known (d t).standing (not-false (is_undecided (d t).standing) p.1.1.1.0)) (there s M p.1.1.0) (eqb-false s (d t).coordinator p.1.1.1.1.0) (promised_known _ (not-false (is_promised ((d t).status (d t).coordinator)) p.1.1.1.1.1.0)))
+      (good_begin (d t) good s (undecided_known (d t).standing p.1.1.1.0) (there s M p.1.1.0) (eqb-false s (d t).coordinator p.1.1.1.1.0) (promised_known _ p.1.1.1.1.1.0))
       (λ t' other holds. not_held d orderly s (d t).objects p.1.1.1.1.1.1.1.1.0 t' holds)
 
   promise_step : (t s : ℕ) → Passed (promise_checks rules w t s (d t)) → Next (at d t (moved (d t) (d t).standing s Promised))
   promise_step t s p =
-      let pending = pending_known _ (not-false (is_pending ((d t).status s)) p.1.1.1.1.1.0) in
+      let pending = pending_known _ p.1.1.1.1.1.0 in
       settled t (d t).standing s Promised (in_range t p.0)
-      (good_promise (d t) (orderly.good t) s (undecided_known (d t).standing (not-false (is_undecided (d t).standing) p.1.1.1.0)) (there s M p.1.1.0) (eqb-false s (d t).coordinator p.1.1.1.1.0) pending)
+      (good_promise (d t) (orderly.good t) s (undecided_known (d t).standing p.1.1.1.0) (there s M p.1.1.0) (eqb-false s (d t).coordinator p.1.1.1.1.0) pending)
       (λ h. ap is_holding pending)
 
   decline_step : (t s : ℕ) → Passed (decline_checks w t s (d t)) → Next (at d t (moved (d t) (d t).standing s Dropped))
   decline_step t s p =
       settled t (d t).standing s Dropped (in_range t p.0)
-      (good_decline (d t) (orderly.good t) s (undecided_known (d t).standing (not-false (is_undecided (d t).standing) p.1.1.1.0)) (there s M p.1.1.0) (eqb-false s (d t).coordinator p.1.1.1.1.0)
-      (pending_known _ (not-false (is_pending ((d t).status s)) p.1.1.1.1.1.0)))
+      (good_decline (d t) (orderly.good t) s (undecided_known (d t).standing p.1.1.1.0) (there s M p.1.1.0) (eqb-false s (d t).coordinator p.1.1.1.1.0)
+      (pending_known _ p.1.1.1.1.1.0))
       (λ h. absurd (false≢true h))
 
   -- every machine has promised
   pub all_promised : (t : ℕ) → Passed (commit_checks w t (d t)) → (k : ℕ) → k < M → (d t).status k ≡ Promised
-  all_promised t p k below = promised_known _ (all_to_each M (λ j. is_promised ((d t).status j)) (not-false (all_to M (λ j. is_promised ((d t).status j))) p.1.1.1.1.0) k below)
+  all_promised t p k below = promised_known _ (ap not (all_to_each M (λ j. is_promised ((d t).status j)) (not-false (all_to M (λ j. is_promised ((d t).status j))) p.1.1.1.1.0) k below))
 
   commit_step : (t : ℕ) → Passed (commit_checks w t (d t)) → Next (at d t (moved (d t) Committed (d t).coordinator Applied))
   commit_step t p =
       let good = orderly.good t in
       settled t Committed (d t).coordinator Applied (in_range t p.0)
-      (good_commit (d t) good (undecided_known (d t).standing (not-false (is_undecided (d t).standing) p.1.1.0)) (good.listing (used (d t) p.1.0)).coordinator (all_promised t p))
+      (good_commit (d t) good (undecided_known (d t).standing p.1.1.0) (good.listing (used (d t) p.1.0)).coordinator (all_promised t p))
       (λ h. absurd (false≢true h))
 
   abort_step : (t : ℕ) → Passed (abort_checks w t (d t)) → Next (at d t (moved (d t) Aborted (d t).coordinator Dropped))
   abort_step t p =
       let good = orderly.good t in
       settled t Aborted (d t).coordinator Dropped (in_range t p.0)
-      (good_abort (d t) good (undecided_known (d t).standing (not-false (is_undecided (d t).standing) p.1.1.0)) (good.listing (used (d t) p.1.0)).coordinator)
+      (good_abort (d t) good (undecided_known (d t).standing p.1.1.0) (good.listing (used (d t) p.1.0)).coordinator)
       (λ h. absurd (false≢true h))
 
   apply_step : (t s : ℕ) → Passed (apply_checks w t s (d t)) → Next (at d t (moved (d t) (d t).standing s Applied))
   apply_step t s p =
       settled t (d t).standing s Applied (in_range t p.0)
-      (good_apply (d t) (orderly.good t) s (committed_known (d t).standing (not-false (is_committed (d t).standing) p.1.1.1.0)) (there s M p.1.1.0))
+      (good_apply (d t) (orderly.good t) s (committed_known (d t).standing p.1.1.1.0) (there s M p.1.1.0))
       (λ h. absurd (false≢true h))
 
   drop_step : (t s : ℕ) → Passed (drop_checks w t s (d t)) → Next (at d t (moved (d t) (d t).standing s Dropped))
   drop_step t s p =
       settled t (d t).standing s Dropped (in_range t p.0)
-      (good_drop (d t) (orderly.good t) s (aborted_known (d t).standing (not-false (is_aborted (d t).standing) p.1.1.1.0)) (there s M p.1.1.0))
+      (good_drop (d t) (orderly.good t) s (aborted_known (d t).standing p.1.1.1.0) (there s M p.1.1.0))
       (λ h. absurd (false≢true h))
 
   clear_step : (t : ℕ) → Passed (clear_checks w t (d t)) → Next (at d t blank)

@@ -1,6 +1,6 @@
 -- Applied and dropped are final until the transaction is cleared, and never both. Assumes nothing.
-use Rattle.std.proofs.Common.{◌≡◌, ℕ, ◌<◌, false, not, eqb, ◌≢◌, sym, refl, ap, ◌∙◌, inl, inr, arith}
-use Rattle.std.proofs.lemmas.Bool.{cases_lt, not-false, both_ways, eq-eqb}
+use Rattle.std.proofs.Common.{◌≡◌, ℕ, ◌<◌, false, not, eqb, ◌≢◌, sym, refl, ap, ◌∙◌, inl, inr}
+use Rattle.std.proofs.lemmas.Bool.{cases_lt, both_ways, eq-eqb}
 use Rattle.orders.specs.Rulebooks.{Rules}
 use Rattle.model.specs.declared.statuses.Standing.{Standing}
 use Rattle.model.specs.declared.statuses.Standing.TheVariants.{Absent, Pending as Undecided, Committed, Aborted}
@@ -10,7 +10,7 @@ use Rattle.model.specs.Calls.{Call, start, issue, begin, promise, decline, commi
 use Rattle.model.specs.Checks.{first, checks, start_checks, issue_checks, begin_checks, promise_checks, decline_checks, commit_checks, abort_checks, apply_checks, drop_checks}
 use Rattle.model.specs.Docket.{Entry, Docket, at, blank, moved}
 use Rattle.model.specs.Histories.{clears}
-use Rattle.model.specs.Statuses.{is_absent, is_undecided, is_none, is_pending, is_promised, is_holding, after_up}
+use Rattle.model.specs.Statuses.{is_none, is_pending, is_holding, after_up}
 use Rattle.model.specs.Steps.{docket_after, started}
 use Rattle.model.specs.World.{World, machines, objects}
 use Rattle.model.proofs.Changes.{at_other, at_cases}
@@ -28,17 +28,17 @@ pub record Final (x : Status) : Type 0 where
 
 pub applied_final : Final Applied
 applied_final = record {
-  not_none = λ e. let z : ◌≡◌ {A = ℕ} 0 1 = cc in omega arith;
-  not_pending = λ e. let z : ◌≡◌ {A = ℕ} 0 1 = cc in omega arith;
-  not_promised = λ e. let z : ◌≡◌ {A = ℕ} 0 1 = cc in omega arith;
+  not_none = λ e. cc;
+  not_pending = λ e. cc;
+  not_promised = λ e. cc;
   over_up = refl;
 }
 
 pub dropped_final : Final Dropped
 dropped_final = record {
-  not_none = λ e. let z : ◌≡◌ {A = ℕ} 0 1 = cc in omega arith;
-  not_pending = λ e. let z : ◌≡◌ {A = ℕ} 0 1 = cc in omega arith;
-  not_promised = λ e. let z : ◌≡◌ {A = ℕ} 0 1 = cc in omega arith;
+  not_none = λ e. cc;
+  not_pending = λ e. cc;
+  not_promised = λ e. cc;
   over_up = refl;
 }
 
@@ -49,16 +49,16 @@ not_both m n e good s s' applied dropped = by e.standing good.course
     dropped_inside : s' < m
     dropped_inside = elim (cases_lt s' m) [
       | inl within ↦ within
-      | inr past ↦ let z : ◌≡◌ {A = ℕ} 0 1 = cc (good.outside s' past) in absurd (omega arith)
+      | inr past ↦ cc (good.outside s' past)
     ]
 
     by : (y : Standing) → Course m y e.coordinator e.status → ⊥
-    by Absent all = let z : ◌≡◌ {A = ℕ} 0 1 = cc (all s) in omega arith
-    by Undecided (inl all) = let z : ◌≡◌ {A = ℕ} 0 1 = cc (all s) in omega arith
+    by Absent all = cc (all s)
+    by Undecided (inl all) = cc (all s)
     by Undecided (inr p) = p.1 s applied
     by Committed p = elim (p.1 s' dropped_inside) [
-      | inl q ↦ let z : ◌≡◌ {A = ℕ} 0 1 = cc in omega arith
-      | inr q ↦ let z : ◌≡◌ {A = ℕ} 0 1 = cc in omega arith
+      | inl q ↦ cc
+      | inr q ↦ cc
     ]
     by Aborted p = p.1 s applied
 
@@ -77,16 +77,16 @@ module _ (rules : Rules) (w : World) (orderly : Orderly (machines w) (objects w)
   ]
 
   from_none : (u k : ℕ) → not (is_none ((d u).status k)) ≡ false → (d u).status k ≢ x
-  from_none u k e q = final.not_none (sym q ∙ none_known ((d u).status k) (not-false (is_none ((d u).status k)) e))
+  from_none u k e q = final.not_none (sym q ∙ none_known ((d u).status k) e)
 
   from_pending : (u k : ℕ) → not (is_pending ((d u).status k)) ≡ false → (d u).status k ≢ x
-  from_pending u k e q = final.not_pending (sym q ∙ pending_known ((d u).status k) (not-false (is_pending ((d u).status k)) e))
+  from_pending u k e q = final.not_pending (sym q ∙ pending_known ((d u).status k) e)
 
   from_promised : (u k : ℕ) → (d u).status k ≡ Promised → (d u).status k ≢ x
   from_promised u k e q = final.not_promised (sym q ∙ e)
 
   from_holding : (u k : ℕ) → not (is_holding ((d u).status k)) ≡ false → (d u).status k ≢ x
-  from_holding u k e q = elim (holding_known ((d u).status k) (not-false (is_holding ((d u).status k)) e)) [
+  from_holding u k e q = elim (holding_known ((d u).status k) e) [
     | inl pending ↦ final.not_pending (sym q ∙ pending)
     | inr promised ↦ final.not_promised (sym q ∙ promised)
   ]
@@ -103,7 +103,7 @@ module _ (rules : Rules) (w : World) (orderly : Orderly (machines w) (objects w)
       let p = passed (start_checks rules w u k list order) refl ok in
       elim (at_cases d u (started k list order) t) [
         | inl here ↦
-            let all = course_of (d u) (orderly.good u) Absent (absent_known (d u).standing (not-false (is_absent (d u).standing) p.1.0)) in
+            let all = course_of (d u) (orderly.good u) Absent (absent_known (d u).standing p.1.0) in
             absurd (final.not_none (sym is ∙ ap (λ j. (d j).status s) here.0 ∙ all s))
         | inr there ↦ ap (λ e. e.status s) there.1 ∙ is
       ]
@@ -121,13 +121,13 @@ module _ (rules : Rules) (w : World) (orderly : Orderly (machines w) (objects w)
       stays u (d u).standing k Dropped (from_pending u k p.1.1.1.1.1.0)
   final_stays (commit u) ok kept =
       let p = passed (commit_checks w u (d u)) refl ok in
-      stays u Committed (d u).coordinator Applied (from_undecided u (undecided_known (d u).standing (not-false (is_undecided (d u).standing) p.1.1.0)))
+      stays u Committed (d u).coordinator Applied (from_undecided u (undecided_known (d u).standing p.1.1.0))
   final_stays (abort u) ok kept =
       let p = passed (abort_checks w u (d u)) refl ok in
-      stays u Aborted (d u).coordinator Dropped (from_undecided u (undecided_known (d u).standing (not-false (is_undecided (d u).standing) p.1.1.0)))
+      stays u Aborted (d u).coordinator Dropped (from_undecided u (undecided_known (d u).standing p.1.1.0))
   final_stays (apply u k) ok kept =
       let p = passed (apply_checks w u k (d u)) refl ok in
-      stays u (d u).standing k Applied (from_promised u k (promised_known _ (not-false (is_promised ((d u).status k)) p.1.1.1.1.0)))
+      stays u (d u).standing k Applied (from_promised u k (promised_known _ p.1.1.1.1.0))
   final_stays (drop u k) ok kept =
       let p = passed (drop_checks w u k (d u)) refl ok in
       stays u (d u).standing k Dropped (from_holding u k p.1.1.1.1.0)

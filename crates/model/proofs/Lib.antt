@@ -10,6 +10,7 @@ pub mod Law
 pub mod Orderly
 pub mod Passed
 pub mod Played
+pub mod Ranges
 pub mod Rooms
 pub mod Runs
 pub mod Sound

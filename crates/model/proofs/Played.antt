@@ -1,5 +1,5 @@
 -- What is played is stepped. Assumes nothing.
-use Rattle.std.proofs.Common.{◌≡◌, ℕ, ◌+◌, ◌-◌, ◌<◌, ◌≤◌, max, true, false, eqb, List, [], ◌∷◌, length, set, sym, refl, ap, ◌∙◌, subst, inl, inr, arith}
+use Rattle.std.proofs.Common.{◌≡◌, ℕ, ◌<◌, true, false, eqb, List, [], ◌∷◌, length, set, sym, refl, ap, ◌∙◌, subst, inl, inr, arith}
 use Rattle.std.proofs.lemmas.List.{get_or-set_same, get_or_past, set_past}
 use Rattle.std.proofs.lemmas.Bool.{cases_lt, cond-true, cond-false, eq-eqb, ne_eqb}
 use Rattle.stores.specs.Rows.{StoreState, TidyChange, no_store, store_at}
@@ -8,7 +8,7 @@ use Rattle.model.specs.Calls.{Call, start, issue, begin, promise, decline, commi
 use Rattle.model.specs.Checks.{answer}
 use Rattle.model.specs.Docket.{Entry, Docket}
 use Rattle.model.specs.Examples.{ExamplesHold}
-use Rattle.model.specs.Orders.{picked, replaced, writes}
+use Rattle.model.specs.Orders.{picked, replaced}
 use Rattle.model.specs.Playing.{carried_out, tidied, stores_next, done, event_next, PlayedAsStepped}
 use Rattle.model.specs.Steps.{Done, OrderChange, OneStore, StoresAfter, values_of}
 use Rattle.model.specs.World.{World}
@@ -36,23 +36,14 @@ replaced_none (o ∷ list) (v ∷ news) = replaced_none list news
 order_change : (rules : Rules) (e : Entry) (before : List StoreState) (s : ℕ) → OneStore s before (set before s (carried_out rules e (store_at before s))) (OrderChange rules e)
 order_change rules e before s =
     one_set before s (carried_out rules e (store_at before s)) (OrderChange rules e)
-    (λ here. record { values = refl; floor = refl; falls = falls (store_at before s).room (writes rules e) })
-    (record { values = sym (replaced_none e.objects (rules.news e.order (picked [] e.objects))); floor = refl; falls = none (writes rules e) })
-  where
-    falls : (r v : ℕ) → r ≤ r - v + v
-    falls r v = omega arith
-
-    none : (v : ℕ) → 0 ≤ 0 + v
-    none v = omega arith
+    (λ here. record { values = refl; floor = refl; falls = omega arith })
+    (record { values = sym (replaced_none e.objects (rules.news e.order (picked [] e.objects))); floor = refl; falls = omega arith })
 
 tidy_change : (before : List StoreState) (s : ℕ) → OneStore s before (set before s (tidied (store_at before s))) TidyChange
 tidy_change before s =
     one_set before s (tidied (store_at before s)) TidyChange
-    (λ here. record { values = refl; floor = refl; room = same (max (store_at before s).room (store_at before s).floor) })
-    (record { values = refl; floor = refl; room = same 0 })
-  where
-    same : (r : ℕ) → r ≤ r
-    same r = omega arith
+    (λ here. record { values = refl; floor = refl; room = omega arith })
+    (record { values = refl; floor = refl; room = omega arith })
 
 stores_are : (rules : Rules) (call : Call) (d : Docket) (before : List StoreState) → StoresAfter rules call d before (stores_next rules call d before)
 stores_are rules (start t s list order) d before = refl

@@ -27,16 +27,8 @@ owed_at rules d t e s below =
 pub covered_at : (rules : Rules) (d : Docket) (t : ℕ) (e : Entry) (s room room' : ℕ) → t < transactions → owed rules d s ≤ room
     → (owes rules s e + room ≤ owes rules s (d t) + room') ⊎ (owed rules d s + owes rules s e ≤ room')
     → owed rules (at d t e) s ≤ room'
-covered_at rules d t e s room room' below covered (inl falls) =
-    covers (owed rules (at d t e) s) (owes rules s (d t)) (owed rules d s) (owes rules s e) room room' (owed_at rules d t e s below) covered falls
-  where
-    covers : (a b c f r r' : ℕ) → a + b ≡ c + f → c ≤ r → f + r ≤ b + r' → a ≤ r'
-    covers a b c f r r' same under falls = omega arith
-covered_at rules d t e s room room' below covered (inr checked) =
-    covers (owed rules (at d t e) s) (owes rules s (d t)) (owed rules d s) (owes rules s e) room' (owed_at rules d t e s below) checked
-  where
-    covers : (a b c f r : ℕ) → a + b ≡ c + f → c + f ≤ r → a ≤ r
-    covers a b c f r same under = omega arith
+covered_at rules d t e s room room' below covered (inl falls) = omega (arith, owed_at rules d t e s below)
+covered_at rules d t e s room room' below covered (inr checked) = omega (arith, owed_at rules d t e s below)
 
 pub owed_raised : (rules : Rules) (d : Docket) (u s : ℕ) → owed rules (raised d u) s ≡ owed rules d s
 owed_raised rules d u s = sum_same transactions (λ t. owes rules s (raised d u t)) (λ t. owes rules s (d t)) (λ t below. same t)

@@ -1,14 +1,12 @@
 -- Sound from the opening on, over any run. Assumes nothing.
-use Rattle.std.proofs.Common.{◌≡◌, ℕ, ◌≤◌, false, ◌≢◌, List, [], ◌∷◌, ◌++◌, length, get_or, sym, refl, ap, ◌∙◌, subst, inl, inr, arith}
+use Rattle.std.proofs.Common.{◌≡◌, ℕ, false, ◌≢◌, List, [], ◌∷◌, ◌++◌, length, get_or, sym, refl, ap, ◌∙◌, subst, inl, inr, arith}
 use Rattle.std.proofs.lemmas.Bool.{cases_eq, cond-false, ne_eqb}
 use Rattle.stores.specs.Rows.{StoreState, place_count, store_at}
 use Rattle.orders.specs.Rulebooks.{Rules}
-use Rattle.model.specs.declared.statuses.Standing.TheVariants.{Absent, Committed}
 use Rattle.model.specs.Checks.{first, checks}
-use Rattle.model.specs.Docket.{blank}
 use Rattle.model.specs.Histories.{History, Run, accepted, docket_of, start_of, last_start, ledger_after, ledger_of}
 use Rattle.model.specs.Opening.{opened, opening_number}
-use Rattle.model.specs.Orders.{owed, transactions}
+use Rattle.model.specs.Orders.{transactions}
 use Rattle.model.specs.Steps.{Event, Step, docket_after}
 use Rattle.model.specs.World.{World, copy}
 use Rattle.model.proofs.Agreeing.{Agree}
@@ -17,9 +15,6 @@ use Rattle.model.proofs.Counts.{sum_zero}
 use Rattle.model.proofs.Orderly.{orderly_blank}
 use Rattle.model.proofs.Passed.{well_answer}
 use Rattle.model.proofs.Sound.{Sound, sound_after}
-
-absent_open : Absent ≢ Committed
-absent_open e = let z : ◌≡◌ {A = ℕ} 0 1 = cc in omega arith
 
 -- a register just opened
 pub sound_opened : (rules : Rules) (stores : List StoreState) → opening_number stores ≡ 0 → Sound rules (store_at stores 0).values (place_count stores) (length (store_at stores 0).values) [] (opened stores)
@@ -31,15 +26,12 @@ sound_opened rules stores well = record {
   starts = λ t used. absurd (used refl);
   agree = record {
     copies = λ s o within below free. ap (λ xs. get_or xs o 0) (alike stores well s within);
-    owing = λ t s within owes. absurd (absent_open owes.committed);
+    owing = λ t s within owes. cc owes.committed;
     long = λ s within. ap length (alike stores well s within);
     whole = refl;
   };
-  rooms = λ s within. nothing (owed rules (λ _. blank) s) (store_at stores s).room (sum_zero transactions);
+  rooms = λ s within. omega (arith, sum_zero transactions);
 }
-  where
-    nothing : (o r : ℕ) → o ≡ 0 → o ≤ r
-    nothing o r e = omega arith
 
 -- a refused call
 sound_refused : (rules : Rules) (opening : List ℕ) (m n : ℕ) (history : History) (w w' : World) (event : Event) → event.number ≢ 0 → w' ≡ w

@@ -1,5 +1,5 @@
 -- What every run keeps, call by call. Assumes nothing.
-use Rattle.std.proofs.Common.{◌≡◌, ℕ, ◌+◌, ◌<◌, ◌≤◌, min, max, true, false, cond, not, eqb, ltb, ◌≢◌, List, ◌∷◌, length, set, sym, refl, ap, ◌∙◌, subst, inl, inr, arith, length-set}
+use Rattle.std.proofs.Common.{◌≡◌, ℕ, ◌+◌, ◌<◌, ◌≤◌, min, true, false, cond, not, eqb, ltb, ◌≢◌, List, ◌∷◌, length, set, sym, refl, ap, ◌∙◌, subst, inl, inr, arith, length-set}
 use Rattle.std.proofs.lemmas.List.{get_or-set_other}
 use Rattle.std.proofs.lemmas.Bool.{cases_eq, cond-true, cond-false, eq-eqb, ne_eqb, not-false, not-true, ltb-false, both_ways}
 use Rattle.stores.specs.Rows.{StoreState, no_store, place_count, store_at}
@@ -14,13 +14,13 @@ use Rattle.model.specs.Docket.{Entry, Docket, at, blank, moved, raised}
 use Rattle.model.specs.Histories.{History, Order, accepted, docket_of, start_of, last_start, ledger_after, ledger_of}
 use Rattle.model.specs.OneCopy.{Owing}
 use Rattle.model.specs.Orders.{renewed, owes, owed, writes, transactions}
-use Rattle.model.specs.Statuses.{is_absent, is_undecided, is_committed, is_aborted, is_promised, is_holding}
+use Rattle.model.specs.Statuses.{is_undecided, is_promised, is_holding}
 use Rattle.model.specs.Steps.{Event, Done, OrderChange, OneStore, StoresAfter, docket_after, started}
 use Rattle.model.specs.World.{World, machines, objects, copy, room}
 use Rattle.model.proofs.Agreeing.{Agree, SameOwing, same_owing, quiet_at, same_raised, agree_same, agree_commit, agree_apply}
 use Rattle.model.proofs.Changes.{at_cases}
 use Rattle.model.proofs.Counts.{all_to_each}
-use Rattle.model.proofs.DocketSteps.{all_promised, docket_step, in_range, there}
+use Rattle.model.proofs.DocketSteps.{all_promised, docket_step, in_range, there, used}
 use Rattle.model.proofs.Known.{absent_known, undecided_known, committed_known, aborted_known, promised_known}
 use Rattle.model.proofs.Orderly.{Orderly}
 use Rattle.model.proofs.Passed.{Passed, passed}
@@ -77,9 +77,6 @@ module _ {rules : Rules} (count : (order olds : List ℕ) → length (rules.news
         (ap (λ e. e.objects) away.1 ∙ theirs.0, ap (λ e. e.order) away.1 ∙ theirs.1)
   ]
 
-  in_use_now : (t : ℕ) → is_absent (d t).standing ≡ false → (d t).standing ≢ Absent
-  in_use_now t some' absent = both_ways (is_absent (d t).standing) some' (ap is_absent absent)
-
   next_starts : (call : Call) → first (checks rules call w) ≡ 0 → Starts (docket_after call d) (λ t. start_of t call (orders t))
   next_starts (start u s list order) ok = λ t now. elim (at_cases d u (started s list order) t) [
     | inl here ↦
@@ -90,14 +87,14 @@ module _ {rules : Rules} (count : (order olds : List ℕ) → length (rules.news
         let same : cond (eqb u t) (list, order) (orders t) ≡ orders t = cond-false (eqb u t) (list, order) (orders t) (ne_eqb u t (λ q. away.0 (sym q))) in
         (ap (λ e. e.objects) away.1 ∙ theirs.0 ∙ ap (λ o. o.0) (sym same), ap (λ e. e.order) away.1 ∙ theirs.1 ∙ ap (λ o. o.1) (sym same))
   ]
-  next_starts (issue u) ok = moved_starts u (d u).standing (d u).coordinator Promised (in_use_now u (passed (issue_checks rules w u (d u)) refl ok).1.0)
-  next_starts (begin u s) ok = moved_starts u (d u).standing s Pending (in_use_now u (passed (begin_checks w u s (d u)) refl ok).1.0)
-  next_starts (promise u s) ok = moved_starts u (d u).standing s Promised (in_use_now u (passed (promise_checks rules w u s (d u)) refl ok).1.0)
-  next_starts (decline u s) ok = moved_starts u (d u).standing s Dropped (in_use_now u (passed (decline_checks w u s (d u)) refl ok).1.0)
-  next_starts (commit u) ok = moved_starts u Committed (d u).coordinator Applied (in_use_now u (passed (commit_checks w u (d u)) refl ok).1.0)
-  next_starts (abort u) ok = moved_starts u Aborted (d u).coordinator Dropped (in_use_now u (passed (abort_checks w u (d u)) refl ok).1.0)
-  next_starts (apply u s) ok = moved_starts u (d u).standing s Applied (in_use_now u (passed (apply_checks w u s (d u)) refl ok).1.0)
-  next_starts (drop u s) ok = moved_starts u (d u).standing s Dropped (in_use_now u (passed (drop_checks w u s (d u)) refl ok).1.0)
+  next_starts (issue u) ok = moved_starts u (d u).standing (d u).coordinator Promised (used (d u) (passed (issue_checks rules w u (d u)) refl ok).1.0)
+  next_starts (begin u s) ok = moved_starts u (d u).standing s Pending (used (d u) (passed (begin_checks w u s (d u)) refl ok).1.0)
+  next_starts (promise u s) ok = moved_starts u (d u).standing s Promised (used (d u) (passed (promise_checks rules w u s (d u)) refl ok).1.0)
+  next_starts (decline u s) ok = moved_starts u (d u).standing s Dropped (used (d u) (passed (decline_checks w u s (d u)) refl ok).1.0)
+  next_starts (commit u) ok = moved_starts u Committed (d u).coordinator Applied (used (d u) (passed (commit_checks w u (d u)) refl ok).1.0)
+  next_starts (abort u) ok = moved_starts u Aborted (d u).coordinator Dropped (used (d u) (passed (abort_checks w u (d u)) refl ok).1.0)
+  next_starts (apply u s) ok = moved_starts u (d u).standing s Applied (used (d u) (passed (apply_checks w u s (d u)) refl ok).1.0)
+  next_starts (drop u s) ok = moved_starts u (d u).standing s Dropped (used (d u) (passed (drop_checks w u s (d u)) refl ok).1.0)
   next_starts (clear u) ok = λ t now. elim (at_cases d u blank t) [
     | inl here ↦ absurd (now (ap (λ e. e.standing) here.1))
     | inr away ↦
@@ -113,19 +110,10 @@ module _ {rules : Rules} (count : (order olds : List ℕ) → length (rules.news
   unless_committed : (e : Entry) (y : Standing) → e.standing ≡ y → y ≢ Committed → (s : ℕ) → s < m → Owing e s → ⊥
   unless_committed e y is other s within owes = other (sym is ∙ owes.committed)
 
-  absent_other : Absent ≢ Committed
-  absent_other e = let z : ◌≡◌ {A = ℕ} 0 1 = cc in omega arith
-
-  undecided_other : Undecided ≢ Committed
-  undecided_other e = let z : ◌≡◌ {A = ℕ} 0 1 = cc in omega arith
-
-  aborted_other : Aborted ≢ Committed
-  aborted_other e = let z : ◌≡◌ {A = ℕ} 0 1 = cc in omega arith
-
   undecided_moves : (u s : ℕ) (x : Status) → not (is_undecided (d u).standing) ≡ false → SameOwing m d (at d u (moved (d u) (d u).standing s x))
   undecided_moves u s x e =
-      let is = undecided_known (d u).standing (not-false (is_undecided (d u).standing) e) in
-      quiet_at m d u (moved (d u) (d u).standing s x) (unless_committed (d u) Undecided is undecided_other) (unless_committed (moved (d u) (d u).standing s x) Undecided is undecided_other)
+      let is = undecided_known (d u).standing e in
+      quiet_at m d u (moved (d u) (d u).standing s x) (unless_committed (d u) Undecided is (λ e. cc)) (unless_committed (moved (d u) (d u).standing s x) Undecided is (λ e. cc))
 
   not_holding_there : (u : ℕ) → Passed (clear_checks w u (d u)) → (s : ℕ) → s < m → Owing (d u) s → ⊥
   not_holding_there u p s within owes =
@@ -148,39 +136,39 @@ module _ {rules : Rules} (count : (order olds : List ℕ) → length (rules.news
     next_agree (start u s list order) ok same =
         let p = passed (start_checks rules w u s list order) refl ok in
         quiet (at d u (started s list order)) same
-        (quiet_at m d u (started s list order) (unless_committed (d u) Absent (absent_known (d u).standing (not-false (is_absent (d u).standing) p.1.0)) absent_other) (unless_committed (started s list order) Undecided refl undecided_other))
+        (quiet_at m d u (started s list order) (unless_committed (d u) Absent (absent_known (d u).standing p.1.0) (λ e. cc)) (unless_committed (started s list order) Undecided refl (λ e. cc)))
     next_agree (issue u) ok same = quiet (docket_after (issue u) d) same (undecided_moves u (d u).coordinator Promised (passed (issue_checks rules w u (d u)) refl ok).1.1.0)
     next_agree (begin u s) ok same = quiet (docket_after (begin u s) d) same (undecided_moves u s Pending (passed (begin_checks w u s (d u)) refl ok).1.1.1.0)
     next_agree (promise u s) ok same = quiet (docket_after (promise u s) d) same (undecided_moves u s Promised (passed (promise_checks rules w u s (d u)) refl ok).1.1.1.0)
     next_agree (decline u s) ok same = quiet (docket_after (decline u s) d) same (undecided_moves u s Dropped (passed (decline_checks w u s (d u)) refl ok).1.1.1.0)
     next_agree (commit u) ok (one, change) =
         let p = passed (commit_checks w u (d u)) refl ok in
-        let used = in_use_now u p.1.0 in
-        let mine = sound.starts u used in
+        let in_use = used (d u) p.1.0 in
+        let mine = sound.starts u in_use in
         subst (λ (l : List ℕ). Agree rules m n (docket_after (commit u) d) (copy w') l)
         (ap (λ os. renewed rules os (d u).order ledger) mine.0 ∙ ap (λ order. renewed rules (orders u).0 order ledger) mine.1)
-        (agree_commit count d sound.orderly (copy w) (copy w') ledger sound.agree u used (d u).coordinator
+        (agree_commit count d sound.orderly (copy w) (copy w') ledger sound.agree u in_use (d u).coordinator
         change.values (λ s other. ap (λ x. x.values) (one_other (d u).coordinator w.stores w'.stores one s other))
-        (undecided_known (d u).standing (not-false (is_undecided (d u).standing) p.1.1.0))
+        (undecided_known (d u).standing p.1.1.0)
         (λ k below. all_promised rules w orderly_here u p k (subst (λ (j : ℕ). k < j) (sym sound.counted) below)))
     next_agree (abort u) ok same =
         let p = passed (abort_checks w u (d u)) refl ok in
         quiet (docket_after (abort u) d) same
-        (quiet_at m d u (moved (d u) Aborted (d u).coordinator Dropped) (unless_committed (d u) Undecided (undecided_known (d u).standing (not-false (is_undecided (d u).standing) p.1.1.0)) undecided_other) (unless_committed (moved (d u) Aborted (d u).coordinator Dropped) Aborted refl aborted_other))
+        (quiet_at m d u (moved (d u) Aborted (d u).coordinator Dropped) (unless_committed (d u) Undecided (undecided_known (d u).standing p.1.1.0) (λ e. cc)) (unless_committed (moved (d u) Aborted (d u).coordinator Dropped) Aborted refl (λ e. cc)))
     next_agree (apply u s) ok (one, change) =
         let p = passed (apply_checks w u s (d u)) refl ok in
-        agree_apply count d sound.orderly (copy w) (copy w') ledger sound.agree u (in_use_now u p.1.0) s
+        agree_apply count d sound.orderly (copy w) (copy w') ledger sound.agree u (used (d u) p.1.0) s
         change.values (λ k other. ap (λ x. x.values) (one_other s w.stores w'.stores one k other))
         (subst (λ (j : ℕ). s < j) sound.counted (there s (machines w) p.1.1.0))
-        (committed_known (d u).standing (not-false (is_committed (d u).standing) p.1.1.1.0))
-        (promised_known ((d u).status s) (not-false (is_promised ((d u).status s)) p.1.1.1.1.0))
+        (committed_known (d u).standing p.1.1.1.0)
+        (promised_known ((d u).status s) p.1.1.1.1.0)
     next_agree (drop u s) ok same =
         let p = passed (drop_checks w u s (d u)) refl ok in
-        let is = aborted_known (d u).standing (not-false (is_aborted (d u).standing) p.1.1.1.0) in
+        let is = aborted_known (d u).standing p.1.1.1.0 in
         quiet (docket_after (drop u s) d) same
-        (quiet_at m d u (moved (d u) (d u).standing s Dropped) (unless_committed (d u) Aborted is aborted_other) (unless_committed (moved (d u) (d u).standing s Dropped) Aborted is aborted_other))
+        (quiet_at m d u (moved (d u) (d u).standing s Dropped) (unless_committed (d u) Aborted is (λ e. cc)) (unless_committed (moved (d u) (d u).standing s Dropped) Aborted is (λ e. cc)))
     next_agree (clear u) ok same =
-        quiet (at d u blank) same (quiet_at m d u blank (not_holding_there u (passed (clear_checks w u (d u)) refl ok)) (unless_committed blank Absent refl absent_other))
+        quiet (at d u blank) same (quiet_at m d u blank (not_holding_there u (passed (clear_checks w u (d u)) refl ok)) (unless_committed blank Absent refl (λ e. cc)))
     next_agree (down s) ok same = quiet d same (same_owing m d)
     next_agree (up s) ok same = quiet (raised d s) same (same_raised m n d s sound.orderly)
     next_agree (tidy s) ok (one, change) =
@@ -224,22 +212,13 @@ module _ {rules : Rules} (count : (order olds : List ℕ) → length (rules.news
       | inl e ↦
           let none : owes rules s (moved (d u) y k x) ≡ 0 =
           ap (λ j. owes rules j (moved (d u) y k x)) e ∙ owes_moved_here rules (d u) y k x ∙ cond-false (is_promised x) (writes rules (d u)) 0 idle in
-          le_from_zero (owes rules s (moved (d u) y k x)) (owes rules s (d u)) none
-      | inr other ↦ le_from_same (owes rules s (moved (d u) y k x)) (owes rules s (d u)) (owes_moved_other rules (d u) y k x s other)
+          omega (arith, none)
+      | inr other ↦ omega (arith, owes_moved_other rules (d u) y k x s other)
     ]
-      where
-        le_from_zero : (a b : ℕ) → a ≡ 0 → a ≤ b
-        le_from_zero a b e = omega arith
-
-        le_from_same : (a b : ℕ) → a ≡ b → a ≤ b
-        le_from_same a b e = omega arith
 
     lighter : (u : ℕ) (e : Entry) → u < transactions → w'.stores ≡ w.stores → ((s : ℕ) → owes rules s e ≤ owes rules s (d u)) → Covered (at d u e)
     lighter u e below same less s within =
-        covered_at rules d u e s (room w s) (room w' s) below (sound.rooms s within) (inl (add (owes rules s e) (owes rules s (d u)) (room w s) (room w' s) (less s) (room_stays same s)))
-      where
-        add : (a b r r' : ℕ) → a ≤ b → r' ≡ r → a + r ≤ b + r'
-        add a b r r' le e = omega arith
+        covered_at rules d u e s (room w s) (room w' s) below (sound.rooms s within) (inl (omega (arith, less s, room_stays same s)))
 
     lighter_moved : (u : ℕ) (y : Standing) (k : ℕ) (x : Status) → u < transactions → is_promised x ≡ false → w'.stores ≡ w.stores → Covered (at d u (moved (d u) y k x))
     lighter_moved u y k x below idle same = lighter u (moved (d u) y k x) below same (owes_less u y k x idle)
@@ -251,15 +230,9 @@ module _ {rules : Rules} (count : (order olds : List ℕ) → length (rules.news
         (elim (cases_eq s k) [
           | inl e ↦
               let owes_here : owes rules s (moved (d u) (d u).standing k Promised) ≡ writes rules (d u) = ap (λ j. owes rules j (moved (d u) (d u).standing k Promised)) e ∙ owes_moved_here rules (d u) (d u).standing k Promised in
-              inr (fits (owed rules d s) (owed rules d k) (owes rules s (moved (d u) (d u).standing k Promised)) (writes rules (d u)) (room w k) (room w s) (room w' s) (ltb-false (room w k) (owed rules d k + writes rules (d u)) checked) (ap (owed rules d) e) owes_here (ap (room w) e) (room_stays same s))
-          | inr other ↦ inl (add (owes rules s (moved (d u) (d u).standing k Promised)) (owes rules s (d u)) (room w s) (room w' s) (owes_moved_other rules (d u) (d u).standing k Promised s other) (room_stays same s))
+              inr (omega (arith, ltb-false (room w k) (owed rules d k + writes rules (d u)) checked, ap (owed rules d) e, owes_here, ap (room w) e, room_stays same s))
+          | inr other ↦ inl (omega (arith, owes_moved_other rules (d u) (d u).standing k Promised s other, room_stays same s))
         ])
-      where
-        fits : (a a' o o' r q q' : ℕ) → a' + o' ≤ r → a ≡ a' → o ≡ o' → q ≡ r → q' ≡ q → a + o ≤ q'
-        fits a a' o o' r q q' le e e' f f' = omega arith
-
-        add : (a b r r' : ℕ) → a ≡ b → r' ≡ r → a + r ≤ b + r'
-        add a b r r' e f = omega arith
 
     -- an order that is carried out at k is no longer owed there
     carried_out : (u : ℕ) (y : Standing) (k : ℕ) → u < transactions → (d u).status k ≡ Promised → OneStore k w.stores w'.stores (OrderChange rules (d u)) → Covered (at d u (moved (d u) y k Applied))
@@ -269,16 +242,9 @@ module _ {rules : Rules} (count : (order olds : List ℕ) → length (rules.news
           | inl e ↦
               let none : owes rules s (moved (d u) y k Applied) ≡ 0 = ap (λ j. owes rules j (moved (d u) y k Applied)) e ∙ owes_moved_here rules (d u) y k Applied in
               let all : owes rules s (d u) ≡ writes rules (d u) = ap (λ j. owes rules j (d u)) e ∙ ap (λ st. cond (is_promised st) (writes rules (d u)) 0) promised in
-              fall (owes rules s (moved (d u) y k Applied)) (owes rules s (d u)) (writes rules (d u)) (room w k) (room w' k) (room w s) (room w' s) none all change.falls (ap (room w) e) (ap (room w') e)
-          | inr other ↦
-              stay (owes rules s (moved (d u) y k Applied)) (owes rules s (d u)) (room w s) (room w' s) (owes_moved_other rules (d u) y k Applied s other) (ap (λ x. x.room) (one_other k w.stores w'.stores one s other))
+              omega (arith, none, all, change.falls, ap (room w) e, ap (room w') e)
+          | inr other ↦ omega (arith, owes_moved_other rules (d u) y k Applied s other, ap (λ x. x.room) (one_other k w.stores w'.stores one s other))
         ]))
-      where
-        fall : (a b v r r' q q' : ℕ) → a ≡ 0 → b ≡ v → r ≤ r' + v → q ≡ r → q' ≡ r' → a + q ≤ b + q'
-        fall a b v r r' q q' e e' le f f' = omega arith
-
-        stay : (a b r r' : ℕ) → a ≡ b → r' ≡ r → a + r ≤ b + r'
-        stay a b r r' e f = omega arith
 
     same_rooms : w'.stores ≡ w.stores → Covered d
     same_rooms same s within = subst (λ (r : ℕ). owed rules d s ≤ r) (sym (room_stays same s)) (sound.rooms s within)
@@ -286,10 +252,7 @@ module _ {rules : Rules} (count : (order olds : List ℕ) → length (rules.news
     next_rooms : (call : Call) → first (checks rules call w) ≡ 0 → StoresAfter rules call d w.stores w'.stores → Covered (docket_after call d)
     next_rooms (start u s list order) ok same =
         let p = passed (start_checks rules w u s list order) refl ok in
-        lighter u (started s list order) (in_range u p.0) same (λ k. none (owes rules k (d u)))
-      where
-        none : (b : ℕ) → 0 ≤ b
-        none b = omega arith
+        lighter u (started s list order) (in_range u p.0) same (λ k. omega arith)
     next_rooms (issue u) ok same =
         let p = passed (issue_checks rules w u (d u)) refl ok in
         heavier u (d u).coordinator (in_range u p.0) same p.1.1.1.1.1.1.0
@@ -305,32 +268,26 @@ module _ {rules : Rules} (count : (order olds : List ℕ) → length (rules.news
     next_rooms (commit u) ok change =
         let p = passed (commit_checks w u (d u)) refl ok in
         carried_out u Committed (d u).coordinator (in_range u p.0)
-        (all_promised rules w orderly_here u p (d u).coordinator (subst (λ (j : ℕ). (d u).coordinator < j) (sym sound.counted) ((sound.orderly.good u).listing (in_use_now u p.1.0)).coordinator))
+        (all_promised rules w orderly_here u p (d u).coordinator (subst (λ (j : ℕ). (d u).coordinator < j) (sym sound.counted) ((sound.orderly.good u).listing (used (d u) p.1.0)).coordinator))
         change
     next_rooms (abort u) ok same =
         let p = passed (abort_checks w u (d u)) refl ok in
         lighter_moved u Aborted (d u).coordinator Dropped (in_range u p.0) refl same
     next_rooms (apply u s) ok change =
         let p = passed (apply_checks w u s (d u)) refl ok in
-        carried_out u (d u).standing s (in_range u p.0) (promised_known ((d u).status s) (not-false (is_promised ((d u).status s)) p.1.1.1.1.0)) change
+        carried_out u (d u).standing s (in_range u p.0) (promised_known ((d u).status s) p.1.1.1.1.0) change
     next_rooms (drop u s) ok same =
         let p = passed (drop_checks w u s (d u)) refl ok in
         lighter_moved u (d u).standing s Dropped (in_range u p.0) refl same
     next_rooms (clear u) ok same =
         let p = passed (clear_checks w u (d u)) refl ok in
-        lighter u blank (in_range u p.0) same (λ k. none (owes rules k (d u)))
-      where
-        none : (b : ℕ) → 0 ≤ b
-        none b = omega arith
+        lighter u blank (in_range u p.0) same (λ k. omega arith)
     next_rooms (down s) ok same = same_rooms same
     next_rooms (up s) ok same = λ k within. subst (λ (o : ℕ). o ≤ room w' k) (sym (owed_raised rules d s k)) (same_rooms same k within)
     next_rooms (tidy s) ok change = λ k within. elim (cases_eq k s) [
-      | inl e ↦ grown (owed rules d k) (room w s) (store_at w.stores s).floor (room w' s) (room w k) (room w' k) (sound.rooms k within) (ap (room w) e) (ap (room w') e) change.1.room
+      | inl e ↦ omega (arith, sound.rooms k within, ap (room w) e, ap (room w') e, change.1.room)
       | inr other ↦ subst (λ (r : ℕ). owed rules d k ≤ r) (sym (ap (λ x. x.room) (one_other s w.stores w'.stores change.0 k other))) (sound.rooms k within)
     ]
-      where
-        grown : (o r f r' q q' : ℕ) → o ≤ q → q ≡ r → q' ≡ r' → max r f ≤ r' → o ≤ q'
-        grown o r f r' q q' le e e' m' = omega arith
     next_rooms (read s list buffer) ok same = same_rooms same
 
     -- an accepted call

@@ -45,10 +45,6 @@ picked_replaced least values (x ∷ list) (v ∷ news) up below long =
     picked_replaced (suc x) (set values x v) list news ups.1 (subst (λ (n : ℕ). all_below n list ≡ true) (sym (length-set values x v)) belows.1) (omega arith) in
     ap (λ y. y ∷ picked (replaced (set values x v) list news) list) head ∙ ap (λ ys. v ∷ ys) rest
 
-pub length_picked : (values list : List ℕ) → length (picked values list) ≡ length list
-length_picked values [] = refl
-length_picked values (x ∷ list) = ap suc (length_picked values list)
-
 -- values that agree at the listed objects are picked alike
 pub picked_same : (xs ys list : List ℕ) → ((o : ℕ) → listed o list ≡ true → get_or xs o 0 ≡ get_or ys o 0) → picked xs list ≡ picked ys list
 picked_same xs ys [] each = refl

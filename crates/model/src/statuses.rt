@@ -3,7 +3,8 @@ ghost use Rattle.std.specs.Prelude.{◌≡◌};
 ghost use Rattle.model.specs.Statuses.{is_absent, is_undecided, is_committed, is_aborted, is_none, is_pending, is_promised, is_dropped, is_holding};
 ghost use Rattle.model.specs.Turns.{status_after};
 
-// A transaction is in use unless it is absent, and undecided while it is pending.
+// A transaction is in use unless it is absent, and undecided while it is pending. The words are the protocol's, `Absent`
+// among them, so it is no `Option`.
 #[derive(Clone, Copy, PartialEq, Eq, Debug)]
 pub enum Standing {
     Absent,
@@ -12,7 +13,7 @@ pub enum Standing {
     Aborted,
 }
 
-// The status of a transaction at one machine. It holds its objects there while it is pending or promised.
+// The status of a transaction at one machine, `None` being one of the protocol's five. It holds its objects there while it is pending or promised.
 #[derive(Clone, Copy, PartialEq, Eq, Debug)]
 pub enum Status {
     None,
@@ -36,6 +37,7 @@ pub enum Turn {
     Up,
 }
 
+// The tests of one variant stay beside the derived `==`: each is a question with a name and a contract of its own.
 impl Standing {
     pub fn is_absent(self) -> bool
         ensures { result ≡ is_absent self }
@@ -86,20 +88,14 @@ impl Status {
     pub fn is_holding(self) -> bool
         ensures { result ≡ is_holding self }
     {
-        match self {
-            Status::Pending | Status::Promised => true,
-            Status::None | Status::Applied | Status::Dropped => false,
-        }
+        matches!(self, Status::Pending | Status::Promised)
     }
 
     // Whether the machine has promised to carry the order out.
     pub fn is_promised(self) -> bool
         ensures { result ≡ is_promised self }
     {
-        match self {
-            Status::Promised => true,
-            Status::None | Status::Pending | Status::Applied | Status::Dropped => false,
-        }
+        matches!(self, Status::Promised)
     }
 
     // A status moves by the status that it has and the turn together. Any other pair leaves it.
