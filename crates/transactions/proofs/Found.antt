@@ -1,28 +1,29 @@
--- Loops that stop at the first that passes a test. Assumes nothing.
-use Rattle.std.proofs.Common.{◌≡◌, ℕ, ◌+◌, ◌<◌, Bool, true, false, ◌||◌, List, ◌∷◌, length, get_or, drop, sym, ap, ◌∙◌, inl, inr, add-one}
-use Rattle.std.proofs.lemmas.List.{at_drop_more}
-use Rattle.std.proofs.lemmas.Bool.{cases_Bool, or_left, both_ways}
-use Rattle.model.specs.Orders.{any_to}
-use Rattle.model.proofs.Counts.{any_to_none}
+-- Searches of a list, read by place. Assumes nothing.
+use Rattle.std.proofs.Common.{◌≡◌, ℕ, ◌<◌, Bool, true, false, ◌||◌, eqb, Some, None, Option, MatchBool, MatchOption, List, [], ◌∷◌, length, get_or, refl, ap, ◌∙◌, arith}
+use Rattle.std.proofs.lemmas.Bool.Decides.{nat_tests}
+use Rattle.std.specs.List.{list_any, AllWithin, HoldsAt}
+use Rattle.model.specs.Orders.{listed, overlap, any_to}
+use Rattle.model.specs.Questions.{lowest}
+use Rattle.model.proofs.Ranges.{any_answer, lowest_first}
 
--- a test of a list that asks one element after the other
-module _ (passes : ℕ → Bool) (any : List ℕ → Bool) (step : (x : ℕ) (xs : List ℕ) → any (x ∷ xs) ≡ (passes x || any xs)) where
-  one_more : (xs : List ℕ) (i : ℕ) → i < length xs → any (drop i xs) ≡ (passes (get_or xs i 0) || any (drop (i + 1) xs))
-  one_more xs i within = at_drop_more any xs i 0 within ∙ step (get_or xs i 0) (drop (i + 1) xs)
+module _ {X : Type 0} (test : X → Bool) (xs : List X) (d : X) (n : ℕ) (long : length xs ≡ n) where
+  pub any_listed : (r : Bool) → MatchBool r ((k : ℕ) × (k < length xs) × HoldsAt (λ x. test x ≡ true) xs k) (AllWithin (λ x. test x ≡ false) xs 0 (length xs)) → r ≡ any_to n (λ k. test (get_or xs k d))
+  any_listed true h = any_answer n (λ k. test (get_or xs k d)) true (h.0, omega (arith, h.1), h.2 d)
+  any_listed false h = any_answer n (λ k. test (get_or xs k d)) false (λ k below. h k d (omega arith) (omega arith))
 
-  pub found_here : (xs : List ℕ) (i : ℕ) → i < length xs → passes (get_or xs i 0) ≡ true → any (drop i xs) ≡ true
-  found_here xs i within passed = one_more xs i within ∙ or_left (passes (get_or xs i 0)) (any (drop (i + 1) xs)) passed
+  pub lowest_listed : (r : Option ℕ) → MatchOption r (AllWithin (λ x. test x ≡ false) xs 0 (length xs)) (λ i. (i < length xs) × HoldsAt (λ x. test x ≡ true) xs i × AllWithin (λ x. test x ≡ false) xs 0 i)
+      → r ≡ lowest n (λ k. test (get_or xs k d))
+  lowest_listed None h = lowest_first n (λ k. test (get_or xs k d)) None (λ k below. h k d (omega arith) (omega arith))
+  lowest_listed (Some i) h = lowest_first n (λ k. test (get_or xs k d)) (Some i) (omega (arith, h.0), h.1 d, λ k below. h.2 k d (omega arith) below)
 
-  pub not_here : (xs : List ℕ) (i : ℕ) → i < length xs → passes (get_or xs i 0) ≡ false → any (drop (i + 1) xs) ≡ any (drop i xs)
-  not_here xs i within idle = sym (one_more xs i within ∙ ap (λ b. b || any (drop (i + 1) xs)) idle)
+same_turned : (a b : ℕ) → eqb a b ≡ eqb b a
+same_turned a b = grind (arith, nat_tests)
 
--- a test of the numbers below a bound
-pub found_below : (n : ℕ) (test : ℕ → Bool) (k : ℕ) → k < n → test k ≡ true → true ≡ any_to n test
-found_below n test k below passed =
-    elim (cases_Bool (any_to n test)) [
-      | inl found ↦ sym found
-      | inr none ↦ absurd (both_ways (test k) (any_to_none n test none k below) passed)
-    ]
+-- what `contains` answers
+pub listed_any : (o : ℕ) (xs : List ℕ) → listed o xs ≡ list_any (λ x. eqb x o) xs
+listed_any o [] = refl
+listed_any o (x ∷ xs) = ap (λ b. b || listed o xs) (same_turned o x) ∙ ap (λ b. eqb x o || b) (listed_any o xs)
 
-pub none_yet : (test : ℕ → Bool) (k : ℕ) → any_to k test ≡ false → test k ≡ false → any_to (k + 1) test ≡ false
-none_yet test k so_far idle = ap (λ n. any_to n test) (add-one k) ∙ ap (λ b. b || any_to k test) idle ∙ so_far
+pub overlap_any : (xs ys : List ℕ) → list_any (λ x. listed x ys) xs ≡ overlap xs ys
+overlap_any [] ys = refl
+overlap_any (x ∷ xs) ys = ap (λ b. listed x ys || b) (overlap_any xs ys)

@@ -1,39 +1,31 @@
--- Sums and counts, one more. Assumes nothing.
-use Rattle.std.proofs.Common.{◌≡◌, ℕ, ◌+◌, ◌<◌, ◌≤◌, Bool, true, false, cond, List, [], ◌∷◌, ◌++◌, length, get_or, take, sym, refl, ap, ◌∙◌, add-one, arith}
-use mir.Val.{bool_byte}
-use Rattle.std.proofs.lemmas.List.{take_more, take_all}
+-- Sums and counts of a list's items, read by place. Assumes nothing.
+use Rattle.std.proofs.Common.{◌≡◌, ℕ, zero, suc, ◌+◌, ◌<◌, ◌≤◌, Bool, true, false, cond, List, [], ◌∷◌, length, get_or, refl, sym, ap, ◌∙◌, arith}
+use Rattle.std.proofs.lemmas.List.Sums.{sum_by-cons}
+use Rattle.std.specs.List.{filter, range_with_len, sum_by}
 use Rattle.model.specs.Orders.{sum_to, count_true}
 
-pub sum_more : (f : ℕ → ℕ) (t sum x : ℕ) → sum ≡ sum_to t f → x ≡ f t → sum + x ≡ sum_to (t + 1) f
-sum_more f t sum x so_far more = add sum x (sum_to t f) (f t) so_far more ∙ sym (ap (λ n. sum_to n f) (add-one t))
+sum_first : (f : ℕ → ℕ) (n : ℕ) → sum_to (suc n) f ≡ f 0 + sum_to n (λ k. f (suc k))
+sum_first f zero = refl
+sum_first f (suc n) = let rest : sum_to (suc n) f ≡ f 0 + sum_to n (λ k. f (suc k)) = sum_first f n in omega arith
+
+pub sum_listed : {X : Type 0} (h : X → ℕ) (xs : List X) (d : X) → sum_by h xs ≡ sum_to (length xs) (λ k. h (get_or xs k d))
+sum_listed h [] d = refl
+sum_listed h (x ∷ xs) d = sum_by-cons h x xs ∙ ap (λ n. h x + n) (sum_listed h xs d) ∙ sym (sum_first (λ k. h (get_or (x ∷ xs) k d)) (length xs))
+
+-- the true places of a mask, counted from a on
+pub count_listed : (mask : List Bool) (test : ℕ → Bool) (a : ℕ) → ((k : ℕ) → k < length mask → test (a + k) ≡ get_or mask k false) → length (filter test (range_with_len a (length mask))) ≡ count_true mask
+count_listed [] test a same = refl
+count_listed (b ∷ bs) test a same =
+    by b (ap test {x = a} {y = a + 0} (omega arith) ∙ same 0 (omega arith))
+    (count_listed bs test (a + 1) (λ k below. ap test {x = a + 1 + k} {y = a + suc k} (omega arith) ∙ same (suc k) (omega arith)))
   where
-    add : (a b c d : ℕ) → a ≡ c → b ≡ d → a + b ≡ d + c
-    add a b c d e e' = omega arith
+    rest : List ℕ
+    rest = filter test (range_with_len (a + 1) (length bs))
 
-count_push : (bs : List Bool) (b : Bool) → count_true (bs ++ (b ∷ [])) ≡ count_true bs + cond b 1 0
-count_push [] b = swap (cond b 1 0)
-  where
-    swap : (n : ℕ) → n + 0 ≡ 0 + n
-    swap n = omega arith
-count_push (x ∷ bs) b = regroup (cond x 1 0) (count_true (bs ++ (b ∷ []))) (count_true bs) (cond b 1 0) (count_push bs b)
-  where
-    regroup : (a m c d : ℕ) → m ≡ c + d → a + m ≡ a + c + d
-    regroup a m c d e = omega arith
+    by : (c : Bool) → test a ≡ c → length rest ≡ count_true bs → length (cond (test a) (a ∷ rest) rest) ≡ cond c 1 0 + count_true bs
+    by true e h = ap (λ t. length (cond t (a ∷ rest) rest)) e ∙ omega arith
+    by false e h = ap (λ t. length (cond t (a ∷ rest) rest)) e ∙ omega arith
 
-pub count_more : (mask : List Bool) (p so_far : ℕ) (here : Bool) → p < length mask → so_far ≡ count_true (take p mask) → here ≡ get_or mask p false → so_far + cond here 1 0 ≡ count_true (take (p + 1) mask)
-count_more mask p so_far here within counted is =
-    ap (λ n. n + cond here 1 0) counted
-    ∙ ap (λ b. count_true (take p mask) + cond b 1 0) is
-    ∙ sym (ap count_true (take_more mask p false within) ∙ count_push (take p mask) (get_or mask p false))
-
-pub count_all : (mask : List Bool) (p so_far : ℕ) → length mask ≤ p → so_far ≡ count_true (take p mask) → so_far ≡ count_true mask
-count_all mask p so_far whole counted = counted ∙ ap count_true (take_all p mask whole)
-
--- a test as a number
-pub byte_counts : (b : Bool) → bool_byte b ≡ cond b 1 0
-byte_counts true = refl
-byte_counts false = refl
-
-pub byte_small : (b : Bool) → bool_byte b ≤ 1
-byte_small true = omega arith
-byte_small false = omega arith
+pub count_small : (mask : List Bool) → count_true mask ≤ length mask
+count_small [] = omega arith
+count_small (b ∷ bs) = let rest : count_true bs ≤ length bs = count_small bs in grind arith

@@ -1,4 +1,4 @@
-// The transactions that a register keeps: a table of 64, by what it means.
+// The transactions that a register keeps: a table of 64.
 #![tactic(auto)]
 
 pub mod entries;

@@ -3,9 +3,9 @@ ghost use Rattle.std.specs.Prelude.{◌≡◌, ◌<◌, ◌≤◌, true, length,
 ghost use Rattle.orders.specs.Ascending.{ascending};
 ghost use Rattle.orders.specs.Kept.{order_bytes};
 ghost use Rattle.orders.specs.Lists.{objects_of};
-ghost use Rattle.model.specs.Orders.{listed, overlap};
+ghost use Rattle.model.specs.Orders.{overlap};
 ghost use Rattle.model.specs.Steps.{started};
-ghost use Rattle.transactions.specs.Entries.{status_in, entry_of, holds_in, holds_object};
+ghost use Rattle.transactions.specs.Entries.{entry_of, holds_in, holds_object};
 
 use crate::entries::Transaction;
 use model::{Standing, Status};
@@ -58,7 +58,10 @@ impl Transaction {
     pub fn status(&self, machine: u8) -> Status
         ensures { result ≡ (entry_of self.now).status machine }
     {
-        status_at(&self.statuses, machine)
+        self.statuses
+            .get(usize::from(machine))
+            .copied()
+            .unwrap_or(Status::None)
     }
 
     // Whether the transaction holds an object of the list at the machine.
@@ -69,42 +72,17 @@ impl Transaction {
     }
 
     // Whether the transaction holds the object at the machine.
+    #[tactic(auto, using(crate::proofs::Found::listed_any))]
     pub fn holds_object(&self, machine: u8, object: u8) -> bool
         ensures { result ≡ holds_object (entry_of self.now) machine object }
     {
-        is_listed(object, self.objects()) && self.status(machine).is_holding()
+        self.objects().contains(&object) && self.status(machine).is_holding()
     }
-}
-
-fn status_at(statuses: &[Status], machine: u8) -> Status
-    ensures { result ≡ status_in statuses.now machine }
-{
-    let machine = machine as usize;
-    if machine >= statuses.len() {
-        return Status::None;
-    }
-    statuses[machine]
 }
 
 // Whether the two lists have an object in common.
 fn overlaps(these: &[u8], those: &[u8]) -> bool
     ensures { result ≡ overlap these.now those.now }
 {
-    for object in these {
-        if is_listed(*object, those) {
-            return true;
-        }
-    }
-    false
-}
-
-fn is_listed(object: u8, list: &[u8]) -> bool
-    ensures { result ≡ listed object list.now }
-{
-    for x in list {
-        if object == *x {
-            return true;
-        }
-    }
-    false
+    these.iter().any(|object| those.contains(object))
 }

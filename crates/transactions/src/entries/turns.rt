@@ -12,11 +12,10 @@ impl Transaction {
     pub fn take_turn(&mut self, standing: Standing, machine: u8, turn: Turn)
         ensures { entry_of self.new ≡ (if nat_lt machine 8 then moved (entry_of self.old) standing machine (status_after turn ((entry_of self.old).status machine)) else entry_of self.old) }
     {
-        if machine >= 8 {
-            return;
+        if machine < 8 {
+            self.standing = standing;
+            turn_at(&mut self.statuses, machine, turn);
         }
-        self.standing = standing;
-        turn_at(&mut self.statuses, machine, turn);
     }
 }
 
@@ -24,8 +23,6 @@ fn turn_at(statuses: &mut [Status], machine: u8, turn: Turn)
     requires { machine < length statuses.old }
     ensures { status_in statuses.new ≡ at (status_in statuses.old) machine (status_after turn (status_in statuses.old machine)) }
 {
-    let machine = machine as usize;
-    let mut status = statuses[machine];
-    status.on(turn);
-    statuses[machine] = status;
+    // By index: after a write through a slice's `get_mut` a proof knows no status.
+    statuses[usize::from(machine)].on(turn);
 }

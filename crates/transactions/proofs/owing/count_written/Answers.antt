@@ -1,19 +1,17 @@
-use Rattle.std.proofs.Common.{◌+◌, ap, ◌∙◌, arith}
-use Rattle.transactions.proofs.Summed.{count_more, count_all, byte_counts, byte_small}
+use Rattle.std.proofs.Common.{rules, ◌≡◌, ◌+◌, ℕ, Bool, false, length, get_or, ap, ◌∙◌, arith}
+use borrow.Author.Tests.{tests}
+use Rattle.std.proofs.lemmas.Iterator.{YieldsList-from_range}
+use Rattle.std.proofs.lemmas.Iterator.Consumers.{YieldsList-from_filter, count_from_yields_List}
+use Rattle.model.specs.Orders.{count_true}
+use Rattle.transactions.proofs.Summed.{count_listed, count_small}
 use Rattle.transactions.proofs.owing.count_written.Goals as goal
-
-pub loop-position-preserved : goal.loop-position-preserved
-loop-position-preserved g c =
-    let long = g.met.B.Rulebook.kept.mask_has_each_position c.args.order.now c.args.count in (
-      ap (λ n. c.loop-position.written + n) (c.from-written.ensures ∙ byte_counts c.writes.result)
-          ∙ count_more (g.B.Rulebook.mask c.args.order.now c.args.count) c.loop-position.position c.loop-position.written c.writes.result (omega (arith, long)) c.loop-position.invariant.0 c.writes.ensures,
-      omega (arith, c.loop-position.invariant.1, byte_small c.writes.result, c.from-written.ensures),
-    )
 
 pub returns : goal.returns
 returns g c =
-    let long = g.met.B.Rulebook.kept.mask_has_each_position c.args.order.now c.args.count in
-    record {
-      count = count_all (g.B.Rulebook.mask c.args.order.now c.args.count) c.loop-position.position c.loop-position.written (omega (arith, long)) c.loop-position.invariant.0;
-      few = omega (arith, c.loop-position.invariant.1);
-    }
+    let mask = g.B.Rulebook.mask c.args.order.now c.args.count in
+    let long : length mask ≡ c.args.count = g.met.B.Rulebook.kept.mask_has_each_position c.args.order.now c.args.count in
+    let test : ℕ → Bool = λ k. get_or mask k false in
+    let counted : c.count.result ≡ count_true mask =
+    count_from_yields_List c.filter.result _ c.count.ensures.ran (YieldsList-from_filter _ test (YieldsList-from_range 0 c.args.count (length mask) (cc) (omega arith)) c.filter.ensures.closure (λ x b q called. search (rules, tests)))
+    ∙ count_listed mask test 0 (λ k below. ap test {x = 0 + k} {y = k} (omega arith)) in
+    record { count = counted; few = omega (arith, count_small mask, long) }

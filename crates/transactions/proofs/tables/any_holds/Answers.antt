@@ -1,19 +1,16 @@
-use Rattle.std.proofs.Common.{◌≡◌, sym, ap, ◌∙◌, arith}
-use Rattle.model.specs.Orders.{any_to}
+use Rattle.std.proofs.Common.{rules, ◌≡◌, Bool, true, false, None, Option}
+use borrow.Author.Tests.{tests}
+use Rattle.std.proofs.lemmas.Iterator.{YieldsList-from_slice, cases_from_any}
+use Rattle.transactions.specs.declared.entries.Transaction.{Transaction}
 use Rattle.transactions.specs.Entries.{holds_in}
-use Rattle.transactions.specs.Tables.{table_docket}
-use Rattle.transactions.proofs.Found.{found_below, none_yet}
+use Rattle.transactions.specs.Tables.{slot_entry}
+use Rattle.transactions.proofs.Found.{any_listed}
 use Rattle.transactions.proofs.tables.any_holds.Goals as goal
-
-pub returns-then-slot_holds : goal.returns-then-slot_holds
-returns-then-slot_holds c =
-    found_below 64 (λ k. holds_in (table_docket c.args.table.now k) c.args.machine c.args.list.now) c.loop-t.t c.loop-t-test.true (sym c.slot_holds.ensures ∙ c.if-slot_holds.true)
-
-pub loop-t-preserved : goal.loop-t-preserved
-loop-t-preserved c =
-    none_yet (λ k. holds_in (table_docket c.args.table.now k) c.args.machine c.args.list.now) c.loop-t.t c.loop-t.invariant (sym c.slot_holds.ensures ∙ c.if-slot_holds.false)
 
 pub returns : goal.returns
 returns c =
-    let all : c.loop-t.t ≡ 64 = omega arith in
-    sym (ap (λ n. any_to n (λ k. holds_in (table_docket c.args.table.now k) c.args.machine c.args.list.now)) (sym all) ∙ c.loop-t.invariant)
+    let slots = c.args.slots.now in
+    let test : Option Transaction → Bool = λ slot. holds_in (slot_entry slot) c.args.machine c.args.list.now in
+    any_listed test slots None 64 c.told-slots c.any.result
+    (cases_from_any _ _ _ (λ slot. test slot ≡ true) (λ slot. test slot ≡ false) c.any.ensures.ran (YieldsList-from_slice slots cc)
+    (λ slot q called. search (rules, tests)) (λ slot q called. search (rules, tests)))

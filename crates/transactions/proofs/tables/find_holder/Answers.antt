@@ -1,19 +1,18 @@
-use Rattle.std.proofs.Common.{◌≡◌, sym, ap, ◌∙◌, arith}
-use Rattle.model.specs.Questions.{lowest}
+use Rattle.std.proofs.Common.{rules, ◌≡◌, Bool, true, false, None, Option, ◌∙◌}
+use borrow.Author.Tests.{tests}
+use Rattle.std.proofs.lemmas.Iterator.{YieldsList-from_slice, IsFirst-from_position}
+use Rattle.transactions.specs.declared.entries.Transaction.{Transaction}
 use Rattle.transactions.specs.Entries.{holds_object}
-use Rattle.transactions.specs.Tables.{table_docket}
-use Rattle.transactions.proofs.Lowest.{lowest_found, lowest_more}
+use Rattle.transactions.specs.Tables.{slot_entry}
+use Rattle.transactions.proofs.Found.{lowest_listed}
 use Rattle.transactions.proofs.tables.find_holder.Goals as goal
-
-pub returns-then-slot_holds_object : goal.returns-then-slot_holds_object
-returns-then-slot_holds_object c =
-    lowest_found 64 (λ k. holds_object (table_docket c.args.table.now k) c.args.machine c.args.object) c.loop-t.t c.loop-t-test.true c.loop-t.invariant (sym c.slot_holds_object.ensures ∙ c.if-slot_holds_object.true)
-
-pub loop-t-preserved : goal.loop-t-preserved
-loop-t-preserved c =
-    lowest_more (λ k. holds_object (table_docket c.args.table.now k) c.args.machine c.args.object) c.loop-t.t c.loop-t.invariant (sym c.slot_holds_object.ensures ∙ c.if-slot_holds_object.false)
 
 pub returns : goal.returns
 returns c =
-    let all : c.loop-t.t ≡ 64 = omega arith in
-    sym (ap (λ n. lowest n (λ k. holds_object (table_docket c.args.table.now k) c.args.machine c.args.object)) (sym all) ∙ c.loop-t.invariant)
+    let slots = c.args.slots.now in
+    let test : Option Transaction → Bool = λ slot. holds_object (slot_entry slot) c.args.machine c.args.object in
+    let same : c.map.result ≡ c.position.result = search rules in
+    same
+    ∙ lowest_listed test slots None 64 c.told-slots c.position.result
+    (IsFirst-from_position _ _ _ (λ slot. test slot ≡ true) (λ slot. test slot ≡ false) c.position.ensures.ran (YieldsList-from_slice slots cc)
+    (λ slot q called. search (rules, tests)) (λ slot q called. search (rules, tests)))

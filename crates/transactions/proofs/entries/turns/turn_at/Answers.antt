@@ -1,11 +1,7 @@
-use Rattle.std.proofs.Common.{ap, ◌∙◌}
-use Rattle.model.specs.declared.statuses.Status.TheVariants.{None}
-use Rattle.model.specs.Docket.{at}
-use Rattle.transactions.specs.Entries.{status_in}
-use Rattle.transactions.proofs.Tabled.{set_at}
+use Rattle.std.proofs.Common.{arith}
+use Rattle.std.proofs.lemmas.Grind.{common_steps}
+use mathlib.Core.Path.{fun_ext}
 use Rattle.transactions.proofs.entries.turns.turn_at.Goals as goal
 
 pub returns : goal.returns
-returns c =
-    set_at c.args.statuses.now c.args.machine c.on.new.self None c.requires
-    ∙ ap (at (status_in c.args.statuses.now) c.args.machine) c.on.ensures
+returns c = fun_ext (λ k. grind (arith, common_steps))
