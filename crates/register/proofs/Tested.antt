@@ -1,21 +1,9 @@
--- Loops that test every number below a bound, and reads of a place that is there. Assumes nothing.
-use Rattle.std.proofs.Common.{◌≡◌, ℕ, ◌+◌, ◌<◌, Bool, true, false, cond, List, length, get_or, Some, None, unwrap_or, sym, refl, ap, ◌∙◌, inl, inr, add-one}
+-- Reads of a place that is there. Assumes nothing.
+use Rattle.std.proofs.Common.{◌≡◌, ℕ, ◌<◌, cond, List, length, get_or, Some, None, unwrap_or, sym, ap, ◌∙◌, inl, inr}
 use Rattle.std.proofs.lemmas.List.{get_or_past}
-use Rattle.std.proofs.lemmas.Bool.{cases_lt, cases_Bool, both_ways, lt-ltb, le-ltb}
-use Rattle.std.proofs.lemmas.Bool.Decides.{Decides-below_and}
+use Rattle.std.proofs.lemmas.Bool.{cases_lt, lt-ltb, le-ltb}
 use Rattle.stores.specs.Meaning.{value_at}
 use Rattle.stores.specs.Rows.{StoreState, place_count, has_place, store_at}
-use Rattle.model.specs.Checks.{all_to}
-
-pub passes_more : (test : ℕ → Bool) (k : ℕ) → all_to k test ≡ true → test k ≡ true → all_to (k + 1) test ≡ true
-passes_more test k so_far here = ap (λ n. all_to n test) (add-one k) ∙ cc
-
-pub fails_at : (n : ℕ) (test : ℕ → Bool) (k : ℕ) → k < n → test k ≡ false → false ≡ all_to n test
-fails_at n test k within fails =
-    elim (cases_Bool (all_to n test)) [
-      | inl all ↦ absurd (both_ways (test k) fails ((Decides-below_and test (λ j. test j ≡ true) (λ m. all_to m test) (λ j. ((λ e. e), (λ e. e))) refl (λ _. refl) n).0 all k within))
-      | inr some ↦ sym some
-    ]
 
 value_or_zero : (values : List ℕ) (object : ℕ) → unwrap_or (value_at values object) 0 ≡ get_or values object 0
 value_or_zero values object =

@@ -1,3 +1,4 @@
 pub mod Meaning
 pub mod Outcomes
 pub mod Refusals
+pub mod State

@@ -1,22 +1,21 @@
--- What the fields of a register mean, and what a call of it is an event of. Assumes nothing.
+-- What a register means, and what a call of it is an event of. Assumes nothing.
 use Rattle.std.specs.Prelude.{ℕ, Bool, true, false, cond, List, [], replicate, is_ok, Result, slice_set}
-use Rattle.stores.specs.Rows.{StoreState}
 use Rattle.orders.specs.Rulebooks.{Rules}
 use Rattle.model.specs.Calls.{Call}
 use Rattle.model.specs.Docket.{blank, raised}
 use Rattle.model.specs.Steps.{Event}
 use Rattle.model.specs.World.{World}
 use Rattle.register.specs.declared.refusals.Refusal.{Refusal}
-use Rattle.register.specs.declared.registers.Register.{Register}
-use Rattle.register.specs.Refusals.{refused_number, answer_number}
+use Rattle.register.specs.State.{RegisterState}
+use Rattle.register.specs.Refusals.{answer_number}
 
 -- a register without transactions takes no order
 abbrev pub no_orders : Rules
 no_orders = record { lawful = λ order n. false; mask = λ order n. replicate n false; news = λ order olds. olds }
 
--- `stores` says what the row means
-abbrev pub world : {R : Type 0} → (R → List StoreState) → Register R → World
-world stores r = record { opening = refused_number r.refusal; docket = λ _. blank; up = r.up; stores = stores r.row }
+-- a register has no transactions yet
+abbrev pub world : RegisterState → World
+world r = record { opening = r.opening; docket = λ _. blank; up = r.up; stores = r.stores }
 
 -- the world with another flag for one machine
 abbrev pub with_up : World → ℕ → Bool → World

@@ -1,14 +1,15 @@
 -- The answer number and the values that each outcome stands for. Assumes nothing.
-use Rattle.std.specs.Prelude.{ℕ, List, [], take}
+use Rattle.std.specs.Prelude.{ℕ, List, []}
+use Rattle.orders.specs.Fixed.{fixed_items}
+use Rattle.orders.specs.declared.fixed.FixedVec.{FixedVec}
 use Rattle.model.specs.Calls.{Call}
 use Rattle.model.specs.Steps.{Event}
 use Rattle.register.specs.declared.outcomes.Outcome.{Outcome}
 use Rattle.register.specs.declared.outcomes.Outcome.TheVariants.{Done, Read, Refused}
-use Rattle.register.specs.declared.outcomes.Values.{Values}
 use Rattle.register.specs.Refusals.{refusal_number}
 
-abbrev pub values_list : Values → List ℕ
-values_list v = take v.count v.values
+abbrev pub values_list : FixedVec ℕ 8 → List ℕ
+values_list = fixed_items
 
 abbrev pub outcome_number : Outcome → ℕ
 outcome_number Done = 0

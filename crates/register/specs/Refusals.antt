@@ -1,5 +1,5 @@
 -- The answer number of each refusal, and of each answer. Assumes nothing.
-use Rattle.std.specs.Prelude.{ℕ, Some, None, Ok, Err, Option, Result}
+use Rattle.std.specs.Prelude.{ℕ, Ok, Err, Result}
 use Rattle.orders.specs.Lists.{list_fault_number}
 use Rattle.register.specs.declared.refusals.Refusal.{Refusal}
 use Rattle.register.specs.declared.refusals.Refusal.TheVariants.{NoSuchMachine, List, NoSuchObject, ShortBuffer, MachineDown, AlreadyDown, AlreadyUp, MachineCount, ObjectCounts, CopiesDiffer}
@@ -20,8 +20,3 @@ refusal_number CopiesDiffer = 22
 abbrev pub answer_number : {A : Type 0} → Result A Refusal → ℕ
 answer_number (Ok x) = 0
 answer_number (Err refusal) = refusal_number refusal
-
--- a refusal that may be there
-abbrev pub refused_number : Option Refusal → ℕ
-refused_number None = 0
-refused_number (Some refusal) = refusal_number refusal

@@ -4,7 +4,7 @@ ghost use Rattle.stores.specs.Rows.{place_count, store_at};
 ghost use Rattle.model.specs.Checks.{all_to};
 ghost use Rattle.model.specs.Opening.{same_counts, same_value, same_values, opening_number, opened};
 ghost use Rattle.register.specs.Meaning.{world};
-ghost use Rattle.register.specs.Refusals.{refused_number};
+ghost use Rattle.register.specs.Refusals.{answer_number};
 
 use crate::refusals::Refusal;
 use crate::registers::Register;
@@ -12,92 +12,63 @@ use stores::Row;
 
 impl<R: Row> Register<R> {
     pub fn open(row: R) -> Register<R>
-        ensures { world R.Row.stores result ≡ opened (R.Row.stores row) }
+        ensures { world result ≡ opened (R.Row.stores row) }
     {
-        let refusal = opening_refusal(&row);
+        let opened = check_row(&row);
         Register {
             row,
-            refusal,
+            opened,
             up: [true; 8],
         }
     }
 }
 
-fn opening_refusal<R: Row>(row: &R) -> Option<Refusal>
-    ensures { refused_number result ≡ opening_number (R.Row.stores row.now) }
+// Whether the row is fit for a register, or the first reason why it is not.
+fn check_row<R: Row>(row: &R) -> Result<(), Refusal>
+    ensures { answer_number result ≡ opening_number (R.Row.stores row.now) }
 {
     let machines = row.count();
-    if machines < 1 || machines > 8 {
-        return Some(Refusal::MachineCount);
+    if !(1..=8).contains(&machines) {
+        return Err(Refusal::MachineCount);
     }
     let objects = row.object_count(0).unwrap_or(0);
-    if objects < 1 || objects > 256 || !counts_agree(row, objects) {
-        return Some(Refusal::ObjectCounts);
+    if !(1..=256).contains(&objects) || !counts_agree(row, objects) {
+        return Err(Refusal::ObjectCounts);
     }
     if !copies_agree(row, objects) {
-        return Some(Refusal::CopiesDiffer);
+        return Err(Refusal::CopiesDiffer);
     }
-    None
+    Ok(())
 }
 
+// Whether each machine has as many objects as the first. The line stands in `runs` too: as one public function it would want
+// a name and a contract of its own for the one line.
 fn counts_agree<R: Row>(row: &R, objects: usize) -> bool
     requires { objects ≡ length (store_at (R.Row.stores row.now) 0).values }
     ensures { result ≡ all_to (place_count (R.Row.stores row.now)) (same_counts (R.Row.stores row.now)) }
 {
-    let machines = row.count();
-    for machine in 0..machines {
-        if !count_agrees(row, machine, objects) {
-            return false;
-        }
-    }
-    true
+    (0..row.count()).all(|machine| row.object_count(machine).unwrap_or(0) == objects)
 }
 
-// Whether the machine has as many objects as the first.
-fn count_agrees<R: Row>(row: &R, machine: u8, objects: usize) -> bool
-    requires { (machine < place_count (R.Row.stores row.now)) × (objects ≡ length (store_at (R.Row.stores row.now) 0).values) }
-    ensures { result ≡ same_counts (R.Row.stores row.now) machine }
-{
-    row.object_count(machine).unwrap_or(0) == objects
-}
-
+// Whether the copy of each machine is that of the first.
 fn copies_agree<R: Row>(row: &R, objects: usize) -> bool
     requires { objects ≡ length (store_at (R.Row.stores row.now) 0).values }
     ensures { result ≡ all_to (place_count (R.Row.stores row.now)) (same_values (R.Row.stores row.now)) }
 {
-    let machines = row.count();
-    for machine in 0..machines {
-        if !copy_agrees(row, machine, objects) {
-            return false;
-        }
-    }
-    true
+    (0..row.count()).all(|machine| copy_agrees(row, machine, objects))
 }
 
-// Whether the copy of the machine is that of the first.
+// The row and a machine stay two arguments, as they are in every method of a row.
+#[tactic(auto, using(model::proofs::Ranges::all_over_range))]
 fn copy_agrees<R: Row>(row: &R, machine: u8, objects: usize) -> bool
-    requires { (machine < place_count (R.Row.stores row.now)) × (objects ≡ length (store_at (R.Row.stores row.now) 0).values) }
-    ensures { result ≡ same_values (R.Row.stores row.now) machine }
+    ensures { machine < place_count (R.Row.stores row.now) → result ≡ all_to objects (same_value (R.Row.stores row.now) machine) }
 {
-    for object in 0..objects {
-        if !value_agrees(row, machine, object) {
-            return false;
-        }
-    }
-    true
+    (0..objects).all(|object| value_at(row, machine, object) == value_at(row, 0, object))
 }
 
-fn value_agrees<R: Row>(row: &R, machine: u8, object: usize) -> bool
-    requires { machine < place_count (R.Row.stores row.now) }
-    ensures { result ≡ same_value (R.Row.stores row.now) machine object }
-{
-    value_at(row, machine, object) == value_at(row, 0, object)
-}
-
-// The value of an object in the copy of a machine that is there.
+// The value of an object in the copy of a machine, where the row has that machine.
 pub(crate) fn value_at<R: Row>(row: &R, machine: u8, object: usize) -> u32
-    requires { machine < place_count (R.Row.stores row.now) }
-    ensures { result ≡ slice_index (store_at (R.Row.stores row.now) machine).values object }
+    ensures { machine < place_count (R.Row.stores row.now) → result ≡ slice_index (store_at (R.Row.stores row.now) machine).values object }
 {
     row.value(machine, object).unwrap_or(0)
 }

@@ -1,18 +1,13 @@
 // What came of a call: plain values, so that they can be kept in a slice or a vector.
-ghost use Rattle.std.specs.Prelude.{◌≤◌};
-
 pub mod methods;
 
 use crate::refusals::Refusal;
+use orders::FixedVec;
 
-// Up to eight values that a read gave.
-#[derive(Clone, Copy)]
-pub struct Values {
-    values: [u32; 8],
-    count: usize,
-    ghost few: { count ≤ 8 },
-}
+// The values that a read gave, at most eight.
+pub type Values = FixedVec<u32, 8>;
 
+// What came of a call. An enum of its own: a `Result<Option<Values>, Refusal>` could have no methods of ours.
 #[derive(Clone, Copy)]
 pub enum Outcome {
     // accepted, with nothing to give

@@ -37,7 +37,7 @@ impl From<ListFault> for Refusal {
 }
 
 impl Refusal {
-    // The answer number that stands for this reason.
+    // The answer number that stands for this reason: a match, since a list has the number of its fault.
     pub fn number(self) -> u8
         ensures { result ≡ refusal_number self }
     {
@@ -47,8 +47,7 @@ impl Refusal {
             Refusal::NoSuchObject => 3,
             Refusal::ShortBuffer => 7,
             Refusal::MachineDown => 17,
-            Refusal::AlreadyDown => 18,
-            Refusal::AlreadyUp => 18,
+            Refusal::AlreadyDown | Refusal::AlreadyUp => 18,
             Refusal::MachineCount => 20,
             Refusal::ObjectCounts => 21,
             Refusal::CopiesDiffer => 22,

@@ -1,31 +1,13 @@
 // Making outcomes of answers, and what they say.
-ghost use Rattle.std.specs.Prelude.{◌≡◌, min, [], take};
-ghost use Rattle.register.specs.Outcomes.{outcome_number, outcome_values, values_list};
+ghost use Rattle.std.specs.Prelude.{◌≡◌, []};
+ghost use Rattle.register.specs.Outcomes.{outcome_number, outcome_values};
 ghost use Rattle.register.specs.Refusals.{answer_number};
 
-use crate::outcomes::{Outcome, Values};
+use crate::outcomes::Outcome;
 use crate::refusals::Refusal;
 
-impl Values {
-    // The first `count` values of the buffer, at most eight.
-    pub fn front(buffer: [u32; 8], count: usize) -> Values
-        ensures { values_list result ≡ take (min count 8) buffer }
-    {
-        Values {
-            values: buffer,
-            count: count.min(8),
-        }
-    }
-
-    pub fn as_slice(&self) -> &[u32]
-        ensures { result.now ≡ values_list self.now }
-    {
-        &self.values[0..self.count]
-    }
-}
-
 impl Outcome {
-    // What came of a call that gives nothing.
+    // What came of a call that gives nothing. Its name says so, as a conversion would not.
     pub fn of(answer: Result<(), Refusal>) -> Outcome
         ensures number { outcome_number result ≡ answer_number answer }
         ensures values { outcome_values result ≡ [] }
@@ -41,9 +23,18 @@ impl Outcome {
         ensures { result ≡ outcome_number self }
     {
         match self {
-            Outcome::Done => 0,
-            Outcome::Read(_) => 0,
+            Outcome::Done | Outcome::Read(_) => 0,
             Outcome::Refused(refusal) => refusal.number(),
+        }
+    }
+
+    // The values that were given: those of a read that was accepted.
+    pub fn values(&self) -> &[u32]
+        ensures { result.now ≡ outcome_values self.now }
+    {
+        match self {
+            Outcome::Read(values) => values.as_slice(),
+            Outcome::Done | Outcome::Refused(_) => &[],
         }
     }
 }

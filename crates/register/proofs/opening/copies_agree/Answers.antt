@@ -1,12 +1,8 @@
-use Rattle.std.proofs.Common.{sym, ◌∙◌, arith}
+use Rattle.std.proofs.Common.{rules}
+use borrow.Author.Tests.{tests}
 use Rattle.model.specs.Opening.{same_values}
-use Rattle.register.proofs.Tested.{passes_more, fails_at}
+use Rattle.model.proofs.Ranges.{all_to_from_run}
 use Rattle.register.proofs.opening.copies_agree.Goals as goal
 
-pub returns-then-not-copy_agrees : goal.returns-then-not-copy_agrees
-returns-then-not-copy_agrees g c =
-    fails_at _ (same_values (g.R.Row.stores c.args.row.now)) c.loop-machine.machine (omega arith) (sym c.copy_agrees.ensures ∙ c.if-not-copy_agrees.true)
-
-pub loop-machine-preserved : goal.loop-machine-preserved
-loop-machine-preserved g c =
-    passes_more (same_values (g.R.Row.stores c.args.row.now)) c.loop-machine.machine c.loop-machine.invariant (sym c.copy_agrees.ensures ∙ c.if-not-copy_agrees.false)
+pub returns : goal.returns
+returns g c = all_to_from_run _ (same_values (g.R.Row.stores c.args.row.now)) _ _ _ c.count.ensures c.all.ensures.runs (λ a r q called. search (rules, tests)) (λ k b q below called. search (rules, tests))
