@@ -1,5 +1,4 @@
 -- Lemmas on the run file, for the readers here and for what runs a file.
-pub mod Bytes
 pub mod SoundHeader
 pub mod Values
 pub mod Walk

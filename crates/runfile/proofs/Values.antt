@@ -1,5 +1,5 @@
 -- The list of the opening values: its length, its elements, and one step of a loop over it.
-use Rattle.std.proofs.Common.{◌≡◌, ℕ, zero, suc, ◌+◌, ◌-◌, ◌<◌, ◌≤◌, List, [], ◌∷◌, length, get_or, refl, ap, ◌∙◌, add-zero, arith}
+use Rattle.std.proofs.Common.{◌≡◌, ℕ, zero, suc, ◌+◌, ◌<◌, List, length, get_or, refl, ap, ◌∙◌, add-zero, arith}
 use Rattle.runfile.specs.HeaderFormat.{object_count, opening_at, opening_values, values_from}
 
 pub length_values_from : (file : List ℕ) (left object : ℕ) → length (values_from file left object) ≡ left
@@ -22,10 +22,3 @@ pub getD_opening_values : (file : List ℕ) (object : ℕ) → object < object_c
 getD_opening_values file object h =
     let same : 0 + object ≡ object = omega arith in
     getD_values_from file (object_count file) 0 object h ∙ ap (opening_at file) same
-
--- the values from object i on, of n
-pub values_more : (file : List ℕ) (n i : ℕ) → i < n → values_from file (n - i) i ≡ opening_at file i ∷ values_from file (n - (i + 1)) (i + 1)
-values_more file n i h = let one : n - i ≡ suc (n - (i + 1)) = omega arith in rw one
-
-pub values_done : (file : List ℕ) (n i : ℕ) → n ≤ i → values_from file (n - i) i ≡ []
-values_done file n i h = let none : n - i ≡ 0 = omega arith in rw none

@@ -6,3 +6,4 @@ pub mod Tags
 pub mod StepFormat
 pub mod Readers
 pub mod FileFormat
+pub mod Walk

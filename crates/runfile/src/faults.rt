@@ -1,5 +1,5 @@
 // What can be wrong with a run file, and where. A field's fault is wrapped whole in its step's fault, and that in
-// the run's fault. The numbers stand in `number` alone.
+// the run's fault. The numbers stand in `number` alone: the format gives them, one for each name.
 ghost use Rattle.std.specs.Prelude.{◌≡◌};
 ghost use Rattle.runfile.specs.declared.faults.RunFault.TheVariants.{Header, Step};
 ghost use Rattle.runfile.specs.Faults.{header_number, field_number, run_number, run_byte, run_step};
@@ -31,6 +31,13 @@ impl HeaderFaultKind {
             HeaderFaultKind::RowDiffers => 37,
         }
     }
+
+    // The fault of this kind at a byte.
+    pub fn at(self, byte: usize) -> HeaderFault
+        ensures { result ≡ record { kind = self; byte = byte } }
+    {
+        HeaderFault { kind: self, byte }
+    }
 }
 
 // A header's fault, with the byte that it is found at.
@@ -60,6 +67,17 @@ impl FieldFaultKind {
             FieldFaultKind::UnusedNotZero => 35,
         }
     }
+
+    // The fault of this kind at a byte of a step.
+    pub(crate) fn at(self, byte: usize, step: u32) -> FieldFault
+        ensures { result ≡ record { kind = self; byte = byte; step = step } }
+    {
+        FieldFault {
+            kind: self,
+            byte,
+            step,
+        }
+    }
 }
 
 // A field's fault, with the byte that it is found at and the step that the field belongs to, counted from 0.
@@ -70,12 +88,13 @@ pub struct FieldFault {
     pub step: u32,
 }
 
-// A step is faulty where one of its fields is.
+// A step is faulty where one of its fields is: the step's own fault, which a field's is not yet.
 #[derive(Clone, Copy, PartialEq, Eq, Debug)]
 pub struct StepFault {
     pub field: FieldFault,
 }
 
+// The three conversions stand written out: what `thiserror` derives from `#[from]` has no contract, and so loses the fault.
 impl From<FieldFault> for StepFault {
     ghost from_gives = { λ f r. r.field ≡ f };
 

@@ -1,6 +1,10 @@
 // The tags of the steps. A new tag is a variant, its byte, and a row that says which fields its call names.
 ghost use Rattle.std.specs.Prelude.{◌≡◌};
+ghost use Rattle.std.specs.Option.{ok_or};
+ghost use Rattle.runfile.specs.declared.faults.FieldFaultKind.TheVariants.{UnknownTag};
 ghost use Rattle.runfile.specs.Tags.{tag_of, named_by};
+
+use crate::faults::FieldFaultKind;
 
 #[derive(Clone, Copy)]
 pub(crate) enum Tag {
@@ -11,7 +15,7 @@ pub(crate) enum Tag {
 }
 
 // Which of the four fields of a step its call names. A field that it does not name is 0.
-#[derive(Clone, Copy)]
+#[derive(Clone, Copy, Default)]
 pub(crate) struct Named {
     pub(crate) transaction: bool,
     pub(crate) machine: bool,
@@ -19,38 +23,36 @@ pub(crate) struct Named {
     pub(crate) order: bool,
 }
 
-const NOTHING: Named = Named {
-    transaction: false,
-    machine: false,
-    list: false,
-    order: false,
-};
+impl TryFrom<u8> for Tag {
+    type Error = FieldFaultKind;
 
-impl Tag {
-    pub(crate) fn from_byte(byte: u8) -> Option<Tag>
-        ensures { result ≡ tag_of byte }
-    {
+    ghost try_from_gives = { λ byte r. r ≡ ok_or (tag_of byte) UnknownTag };
+
+    fn try_from(byte: u8) -> Result<Tag, FieldFaultKind> {
+        // A match: the format lists the bytes.
         match byte {
-            11 => Some(Tag::Down),
-            12 => Some(Tag::Up),
-            13 => Some(Tag::Tidy),
-            14 => Some(Tag::Read),
-            _ => None,
+            11 => Ok(Tag::Down),
+            12 => Ok(Tag::Up),
+            13 => Ok(Tag::Tidy),
+            14 => Ok(Tag::Read),
+            _ => Err(FieldFaultKind::UnknownTag),
         }
     }
+}
 
+impl Tag {
     pub(crate) fn named(self) -> Named
         ensures { result ≡ named_by self }
     {
         match self {
             Tag::Down | Tag::Up | Tag::Tidy => Named {
                 machine: true,
-                ..NOTHING
+                ..Named::default()
             },
             Tag::Read => Named {
                 machine: true,
                 list: true,
-                ..NOTHING
+                ..Named::default()
             },
         }
     }
