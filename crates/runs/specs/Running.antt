@@ -1,5 +1,5 @@
 -- What came of a run file. Assumes nothing.
-use Rattle.std.specs.Prelude.{◌≡◌, ℕ, List, [], ◌∷◌, reverse, length, Some, None, Ok, Err, Option, Result}
+use Rattle.std.specs.Prelude.{◌≡◌, ℕ, List, [], ◌∷◌, reverse, length, Some, Ok, Err, Option, Result}
 use Rattle.stores.specs.Rows.{StoreState}
 use Rattle.model.specs.Calls.{Call}
 use Rattle.model.specs.Histories.{History, Run}
@@ -49,8 +49,3 @@ FinishesAt (Err f) stores file outcomes fault w = (outcomes ≡ []) × (fault �
 
 abbrev pub Finishes : List StoreState → List ℕ → List Outcome → Option RunFault → World → Type 0
 Finishes stores file outcomes fault w = FinishesAt (fitting_header stores file) stores file outcomes fault w
-
--- how the steps ended
-abbrev pub ended_with : Result (Unit {0}) RunFault → Option RunFault
-ended_with (Ok done) = None
-ended_with (Err fault) = Some fault

@@ -4,6 +4,7 @@
 pub mod fitting;
 mod loading;
 pub mod running;
+mod sound;
 mod stepping;
 
 pub use fitting::read_fitting_header;

@@ -1,9 +1,9 @@
 use Rattle.std.proofs.Common.{◌≡◌, vec_items, vec_capacity}
 use Rattle.register.specs.Meaning.{world}
 use Rattle.runs.proofs.Stepped.{Midway}
-use Rattle.runs.proofs.stepping.run_steps.Given as goal
+use Rattle.runs.proofs.sound.SoundFile.run_steps.Given as goal
 
 abbrev pub invariant-loop-step : goal.invariant-loop-step
 invariant-loop-step g l =
-    Midway l.step-end l.file l.initial.place (world g.R.Row.stores l.initial.register) l.step l.place (vec_items l.outcomes) (world g.R.Row.stores l.register)
+    Midway l.self.bytes.now l.self.header (world l.initial.register) l.step-iterator (vec_items l.outcomes) (world l.register)
     × (vec_capacity l.outcomes ≡ vec_capacity l.initial.outcomes)
