@@ -11,9 +11,7 @@ const MOST_BYTES: u64 = 65_537;
 fn main(rt: HostRuntime) -> anyhow::Result<()> {
     let mut file = Vec::new(rt.alloc());
     rt.stdin().take(MOST_BYTES).read_to_end(&mut file)?;
-    match list_file(rt.alloc(), file.as_slice()) {
-        Ok(text) => rt.stdout().write_all(text.as_bytes())?,
-        Err(_) => return Err(anyhow!("out of memory")),
-    }
+    let text = list_file(rt.alloc(), file.as_slice()).map_err(|_| anyhow!("out of memory"))?;
+    rt.stdout().write_all(text.as_bytes())?;
     Ok(())
 }

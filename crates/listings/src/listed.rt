@@ -23,26 +23,24 @@ pub fn list_file(heap: Global, file: &[u8]) -> Result<String, MakeError>
     }
 }
 
+// The heap and the file stay two arguments here: a handle and an input, which are nothing more as one.
+
 // A file with a sound header is run over the row that it is for, where there is one.
 fn list_sound(heap: Global, file: &[u8], header: Header) -> Result<String, MakeError>
     requires { Ok header ≡ header_of file.now }
     ensures { IfOk result (λ text. ListedFile file.now (string_bytes text)) }
 {
     let objects = header.objects as usize;
+    // A match: each count has a row of a type of its own.
     match header.machines {
         1 => list_over(heap, file, single_row(heap, objects)?),
         2 => list_over(heap, file, pair_row(heap, objects)?),
         8 => list_over(heap, file, eight_row(heap, objects)?),
-        _ => list_nothing(
-            heap,
-            HeaderFault {
-                kind: HeaderFaultKind::RowDiffers,
-                byte: 0,
-            },
-        ),
+        _ => list_nothing(heap, HeaderFaultKind::RowDiffers.at(0)),
     }
 }
 
+// Apart from `list_file`, so that its proof does not stand at a public function.
 fn list_unsound(heap: Global, file: &[u8], fault: HeaderFault) -> Result<String, MakeError>
     requires { Err fault ≡ header_of file.now }
     ensures { IfOk result (λ text. ListedFile file.now (string_bytes text)) }
@@ -53,10 +51,10 @@ fn list_unsound(heap: Global, file: &[u8], fault: HeaderFault) -> Result<String,
 fn list_over<R: Row + Drop>(heap: Global, file: &[u8], row: R) -> Result<String, MakeError>
     ensures { IfOk result (λ text. Listed (R.Row.stores row) file.now (string_bytes text)) }
 {
-    match run(heap, file, row) {
-        Ok(finished) => Ok(listing_text(heap, finished.outcomes.as_slice(), finished.fault)?),
-        Err(_) => Err(MakeError::OutOfMemory),
-    }
+    let Ok(finished) = run(heap, file, row) else {
+        return Err(MakeError::OutOfMemory);
+    };
+    Ok(listing_text(heap, finished.outcomes.as_slice(), finished.fault)?)
 }
 
 // No step was run.

@@ -1,6 +1,5 @@
 // The text of a listing: a line for each outcome, and one for the fault that ended the run.
 ghost use Rattle.std.specs.Prelude.{◌≡◌, ◌++◌, IfSome, IfOk, Some, string_bytes, OnOk};
-ghost use Rattle.register.specs.Outcomes.{outcome_values};
 ghost use Rattle.listings.specs.Text.{spaced_all, line, lines_from, fault_line, listing_text};
 
 use register::Outcome;
@@ -39,7 +38,7 @@ impl fmt::Display for Line {
         let step = self.step;
         let number = self.outcome.number();
         let values = Spaced {
-            values: values_of(&self.outcome),
+            values: self.outcome.values(),
         };
         writeln!(f, "{step} {number}{values}")
     }
@@ -64,37 +63,13 @@ impl fmt::Display for FaultLine {
     }
 }
 
-fn values_of(outcome: &Outcome) -> &[u32]
-    ensures { result.now ≡ outcome_values outcome.now }
-{
-    match outcome {
-        Outcome::Read(values) => values.as_slice(),
-        Outcome::Done => &[],
-        Outcome::Refused(_) => &[],
-    }
-}
-
-// A `String` refuses text only for want of memory, so that is what the formatter's error means here.
-fn append<D: fmt::Display + Drop>(text: &mut String, value: D) -> Result<(), AllocError>
-    ensures { OnOk result (IfSome (D.output value) (λ bytes. string_bytes text.new ≡ string_bytes text.old ++ bytes)) }
-{
-    match text.write(value) {
-        Ok(()) => Ok(()),
-        Err(_) => Err(AllocError),
-    }
-}
-
 fn append_lines(text: &mut String, outcomes: &[Outcome]) -> Result<(), AllocError>
     ensures { OnOk result (string_bytes text.new ≡ string_bytes text.old ++ lines_from 0 outcomes.now) }
 {
     for (step, outcome) in outcomes.iter().enumerate() {
-        append(
-            text,
-            Line {
-                step,
-                outcome: *outcome,
-            },
-        )?;
+        let outcome = *outcome;
+        let line = Line { step, outcome };
+        write!(text, "{line}")?;
     }
     Ok(())
 }
@@ -110,7 +85,8 @@ pub fn listing_text(
     let mut text = String::new(heap);
     append_lines(&mut text, outcomes)?;
     if let Some(fault) = fault {
-        append(&mut text, FaultLine { fault })?;
+        let last = FaultLine { fault };
+        write!(text, "{last}")?;
     }
     Ok(text)
 }

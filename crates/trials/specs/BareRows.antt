@@ -1,5 +1,6 @@
 -- A row of stores that are all alike. Assumes nothing.
-use Rattle.std.specs.Prelude.{◌≡◌, ℕ, ◌<◌, ◌≤◌, min, Bool, true, false, cond, is_ok, Some, None, Err, slice_set, refl}
+use Rattle.std.specs.Prelude.{◌≡◌, ℕ, ◌<◌, ◌≤◌, min, Bool, true, false, cond, is_ok, Some, None, Err, Option, nat_lt, slice_set, refl}
+use Rattle.std.specs.Bool.{then_some}
 use Rattle.std.proofs.Common.{ap, sym, subst, ◌∙◌, arith}
 use Rattle.std.proofs.lemmas.List.{length-replicate, get_or-replicate}
 use Rattle.std.proofs.lemmas.Bool.{cond-true, cond-false, ltb-true, lt-ltb, le-ltb}
@@ -16,6 +17,17 @@ there n place within = get_or-replicate n place bare no_store (omega (arith, cou
 
 pub answers_there : {A : Type 0} (n place : ℕ) (ask : StoreState → A) → place < place_count (bare_row n) → answer_at (bare_row n) place ask ≡ Some (ask bare)
 answers_there n place ask within = cond-true _ _ _ (lt-ltb _ _ within) ∙ ap (λ s. Some (ask s)) (there n place within)
+
+-- an answer given at the places that the row has is the row's, if it is there
+pub answers_all : {A : Type 0} (n place : ℕ) (ask : StoreState → A) (answer : A) (count : ℕ) (r : Option A)
+    → r ≡ then_some (nat_lt place count) answer → count ≡ place_count (bare_row n)
+    → (place < place_count (bare_row n) → Some answer ≡ answer_at (bare_row n) place ask) → r ≡ answer_at (bare_row n) place ask
+answers_all n place ask answer count r given counted here =
+    given ∙ ap (λ k. then_some (nat_lt place k) answer) counted ∙ at (has_place (bare_row n) place) refl
+  where
+    at : (b : Bool) → b ≡ has_place (bare_row n) place → then_some b answer ≡ answer_at (bare_row n) place ask
+    at true e = here (ltb-true _ _ (sym e))
+    at false e = sym (cond-false _ _ _ (sym e))
 
 pub no_values : (n place object : ℕ) → cond (has_place (bare_row n) place) (value_at (store_at (bare_row n) place).values object) None ≡ None
 no_values n place object = at (has_place (bare_row n) place) refl

@@ -5,13 +5,9 @@ use std::test::Fail;
 
 // The listing of the file is as expected.
 fn lists(rt: &(impl Abort + AllocGlobal), file: &[u8], expected: &str) -> Result<(), Fail> {
-    match list_file(rt.alloc(), file) {
-        Ok(text) => {
-            assert!(rt; text.as_str() == expected, "{}", expected);
-            Ok(())
-        },
-        Err(_) => Err(Fail::new("out of memory")),
-    }
+    let text = list_file(rt.alloc(), file).map_err(|_| Fail::new("out of memory"))?;
+    assert!(rt; text.as_str() == expected, "{}", expected);
+    Ok(())
 }
 
 #[test]

@@ -1,5 +1,5 @@
 // Registers over rows that are fit for them or not.
-use register::{Refusal, Register};
+use register::{Outcome, Refusal, Register};
 use runs::run;
 use std::process::Abort;
 use std::test::Fail;
@@ -15,23 +15,12 @@ fn refuses<R: Row + Drop>(rt: &impl Abort, row: R, number: u8) -> Result<(), Fai
     assert_eq!(rt; answer(register.tidy(0)), number);
     assert_eq!(rt; answer(register.read(9, &[], &mut buffer)), number);
     assert!(rt; buffer[0] == 9 && buffer[1] == 9);
-    match register.value(0, 0) {
-        Ok(_) => {
-            assert_eq!(rt; 0, number);
-            Ok(())
-        },
-        Err(refusal) => {
-            assert_eq!(rt; refusal.number(), number);
-            Ok(())
-        },
-    }
+    assert_eq!(rt; answer(register.value(0, 0).map(|_| ())), number);
+    Ok(())
 }
 
-fn answer(r: Result<(), Refusal>) -> u8 {
-    match r {
-        Ok(()) => 0,
-        Err(refusal) => refusal.number(),
-    }
+fn answer(answered: Result<(), Refusal>) -> u8 {
+    Outcome::of(answered).number()
 }
 
 #[test]
@@ -68,13 +57,9 @@ fn a_short_buffer_is_left_alone(rt: HostRuntime) -> Result<(), Fail> {
     assert_eq!(rt; answer(register.read(1, &[0, 3], &mut buffer)), 0);
     assert!(rt; buffer[0] == 0 && buffer[1] == 0 && buffer[2] == 9);
     assert_eq!(rt; answer(register.down(1)), 0);
-    match register.value(1, 3) {
-        Ok(value) => {
-            assert_eq!(rt; value, 0);
-            Ok(())
-        },
-        Err(_) => Err(Fail::new("a machine that is down still tells its copy")),
-    }
+    // a machine that is down still tells its copy
+    assert!(rt; register.value(1, 3) == Ok(0));
+    Ok(())
 }
 
 // A file for one object, over a row of stores with two.
@@ -111,10 +96,7 @@ fn a_journal_that_is_full_while_loading(rt: HostRuntime) -> Result<(), Fail> {
     };
     assert!(rt; finished.fault.is_none());
     for object in 0..256usize {
-        match finished.register.value(1, object) {
-            Ok(value) => assert_eq!(rt; value, object as u32 * 3),
-            Err(_) => return Err(Fail::new("a value is not there")),
-        }
+        assert!(rt; finished.register.value(1, object) == Ok(object as u32 * 3));
     }
     Ok(())
 }

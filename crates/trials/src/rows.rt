@@ -20,15 +20,11 @@ impl Row for Bare {
     ghost floors_are_ample = { λ row. floors row.count };
 
     fn count(&self) -> u8 {
-        if self.count > 255 {
-            255
-        } else {
-            self.count as u8
-        }
+        self.count.min(255) as u8
     }
 
     fn object_count(&self, place: u8) -> Option<usize> {
-        if place < self.count() { Some(0) } else { None }
+        (place < self.count()).then_some(0)
     }
 
     fn value(&self, _place: u8, _object: usize) -> Option<u32> {
@@ -36,19 +32,15 @@ impl Row for Bare {
     }
 
     fn remaining(&self, place: u8) -> Option<u32> {
-        if place < self.count() { Some(64) } else { None }
+        (place < self.count()).then_some(64)
     }
 
     fn put(&mut self, place: u8, _object: usize, _value: u32) -> Option<Result<(), PutRefusal>> {
-        if place < self.count() {
-            Some(Err(PutRefusal::NoSuchObject))
-        } else {
-            None
-        }
+        (place < self.count()).then_some(Err(PutRefusal::NoSuchObject))
     }
 
-    fn tidy(&mut self, place: u8) -> bool {
-        place < self.count()
+    fn tidy(&mut self, place: u8) -> Option<()> {
+        (place < self.count()).then_some(())
     }
 }
 
@@ -61,8 +53,8 @@ fn has_places<R: Row + Drop>(rt: &impl Abort, row: R, count: u8) {
     assert_eq!(rt; row.remaining(count), None);
     assert!(rt; row.put(count - 1, 0, 7) == Some(Err(PutRefusal::NoSuchObject)));
     assert!(rt; row.put(count, 0, 7) == None);
-    assert!(rt; row.tidy(count - 1));
-    assert!(rt; !row.tidy(count));
+    assert_eq!(rt; row.tidy(count - 1), Some(()));
+    assert_eq!(rt; row.tidy(count), None);
 }
 
 #[test]
@@ -124,7 +116,7 @@ fn a_journal_fills_and_is_tidied(rt: HostRuntime) -> Result<(), Fail> {
     assert_eq!(rt; row.value(1, 2), Some(511));
     assert_eq!(rt; row.value(1, 0), Some(4));
     assert_eq!(rt; row.remaining(0), Some(1024));
-    assert!(rt; row.tidy(1));
+    assert_eq!(rt; row.tidy(1), Some(()));
     assert_eq!(rt; row.remaining(1), Some(512));
     assert_eq!(rt; row.value(1, 0), Some(4));
     Ok(())

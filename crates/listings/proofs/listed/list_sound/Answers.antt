@@ -1,6 +1,9 @@
-use Rattle.std.proofs.Common.{string_bytes, sym, ap, ◌∙◌, rules}
+use Rattle.std.proofs.Common.{◌≡◌, [], IfOk, Some, string_bytes, sym, ap, subst, ◌∙◌, rules}
 use Rattle.stores.specs.Mixed.{single_stores, pair_stores, eight_stores}
+use Rattle.runfile.specs.declared.faults.HeaderFault.{HeaderFault}
+use Rattle.runfile.specs.declared.faults.RunFault.TheVariants.{Header as HeaderBroken}
 use Rattle.listings.specs.Listed.{listing_stores}
+use Rattle.listings.specs.Text.{listing_text}
 use Rattle.listings.proofs.Chosen.{listed_over, listed_elsewhere}
 use Rattle.listings.proofs.listed.list_sound.Goals as goal
 
@@ -24,4 +27,5 @@ returns-in_ok-eight_row-in-8 c =
 
 pub returns-in_default : goal.returns-in_default
 returns-in_default c =
-    listed_elsewhere string_bytes c.args.file.now c.args.header c.requires (search rules) (search rules) (search rules) c.list_nothing.result c.list_nothing.ensures
+    listed_elsewhere string_bytes c.args.file.now c.args.header c.requires (search rules) (search rules) (search rules) c.list_nothing.result
+    (subst (λ (f : HeaderFault). IfOk c.list_nothing.result (λ text. string_bytes text ≡ listing_text [] (Some (HeaderBroken f)))) c.at.ensures c.list_nothing.ensures)
