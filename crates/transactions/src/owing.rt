@@ -1,4 +1,5 @@
-// How many writes transactions owe.
+// How many writes transactions owe. The rules of a rulebook stand spelled out in each contract: a rulebook is the caller's, and
+// no value of ours has it.
 ghost use Rattle.std.specs.Prelude.{◌≡◌, ◌≤◌};
 ghost use Rattle.orders.specs.Rulebooks.{rules_of};
 ghost use Rattle.model.specs.Orders.{count_true, writes, owes, owed};
