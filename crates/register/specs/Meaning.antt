@@ -1,5 +1,6 @@
 -- What a register means, and what a call of it is an event of. Assumes nothing.
 use Rattle.std.specs.Prelude.{ℕ, Bool, true, false, cond, List, [], replicate, is_ok, Result, slice_set}
+use Rattle.stores.specs.Rows.{StoreState}
 use Rattle.orders.specs.Rulebooks.{Rules}
 use Rattle.model.specs.Calls.{Call}
 use Rattle.model.specs.Docket.{blank, raised}
@@ -13,9 +14,9 @@ use Rattle.register.specs.Refusals.{answer_number}
 abbrev pub no_orders : Rules
 no_orders = record { lawful = λ order n. false; mask = λ order n. replicate n false; news = λ order olds. olds }
 
--- a register has no transactions yet
-abbrev pub world : RegisterState → World
-world r = record { opening = r.opening; docket = λ _. blank; up = r.up; stores = r.stores }
+-- `stores` says what the row means; a register has no transactions yet
+abbrev pub world : {R : Type 0} → (R → List StoreState) → RegisterState R → World
+world stores r = record { opening = answer_number r.opened; docket = λ _. blank; up = r.up; stores = stores r.row }
 
 -- the world with another flag for one machine
 abbrev pub with_up : World → ℕ → Bool → World

@@ -1,9 +1,9 @@
 -- What a register is to a caller. Assumes nothing.
-use Rattle.std.specs.Prelude.{ℕ, Bool, List}
-use Rattle.stores.specs.Rows.{StoreState}
+use Rattle.std.specs.Prelude.{Bool, List, Result}
+use Rattle.register.specs.declared.refusals.Refusal.{Refusal}
 
--- opening is 0, or the number that the opening was refused with; up has a flag for each machine
-pub record RegisterState : Type 0 where
-  pub opening : ℕ
+-- whether it was well opened, or why not; a flag for each machine; and the row of its stores
+pub record RegisterState (R : Type 0) : Type 0 where
+  pub opened : Result (Unit {0}) Refusal
   pub up : List Bool
-  pub stores : List StoreState
+  pub row : R

@@ -17,7 +17,7 @@ use stores::Row;
 impl<R: Row> Register<R> {
     // The machine goes down.
     pub fn down(&mut self, machine: u8) -> Result<(), Refusal>
-        ensures { Step no_orders (world self.old) (called (call_down machine) result []) (world self.new) }
+        ensures { Step no_orders (world R.Row.stores self.old) (called (call_down machine) result []) (world R.Row.stores self.new) }
     {
         self.known_machine(machine)?;
         if !self.is_up(machine) {
@@ -29,7 +29,7 @@ impl<R: Row> Register<R> {
 
     // The machine comes up again.
     pub fn up(&mut self, machine: u8) -> Result<(), Refusal>
-        ensures { Step no_orders (world self.old) (called (call_up machine) result []) (world self.new) }
+        ensures { Step no_orders (world R.Row.stores self.old) (called (call_up machine) result []) (world R.Row.stores self.new) }
     {
         self.known_machine(machine)?;
         if self.is_up(machine) {
@@ -41,7 +41,7 @@ impl<R: Row> Register<R> {
 
     // The machine's store makes room.
     pub fn tidy(&mut self, machine: u8) -> Result<(), Refusal>
-        ensures { Step no_orders (world self.old) (called (call_tidy machine) result []) (world self.new) }
+        ensures { Step no_orders (world R.Row.stores self.old) (called (call_tidy machine) result []) (world R.Row.stores self.new) }
     {
         self.running_machine(machine)?;
         self.row.tidy(machine);
@@ -50,8 +50,8 @@ impl<R: Row> Register<R> {
 
     // The copy's values at the listed objects, at the front of the buffer.
     pub fn read(&self, machine: u8, list: &[u8], buffer: &mut [u32]) -> Result<(), Refusal>
-        ensures step { Step no_orders (world self.now) (called (call_read machine list.now (length buffer.old)) result (picked (copy (world self.now) machine) list.now)) (world self.now) }
-        ensures buffer { buffer.new ≡ (if is_ok result then picked (copy (world self.now) machine) list.now ++ drop (length list.now) buffer.old else buffer.old) }
+        ensures step { Step no_orders (world R.Row.stores self.now) (called (call_read machine list.now (length buffer.old)) result (picked (copy (world R.Row.stores self.now) machine) list.now)) (world R.Row.stores self.now) }
+        ensures buffer { buffer.new ≡ (if is_ok result then picked (copy (world R.Row.stores self.now) machine) list.now ++ drop (length list.now) buffer.old else buffer.old) }
         ensures few { OnOk result (length list.now ≤ 8) }
     {
         self.readable(machine, list, buffer.len())?;
@@ -61,8 +61,8 @@ impl<R: Row> Register<R> {
 
     // The value of an object in the copy of a machine. It changes nothing.
     pub fn value(&self, machine: u8, object: usize) -> Result<u32, Refusal>
-        ensures number { answer_number result ≡ value_answer machine object (world self.now) }
-        ensures value { IfOk result (λ v. v ≡ slice_index (copy (world self.now) machine) object) }
+        ensures number { answer_number result ≡ value_answer machine object (world R.Row.stores self.now) }
+        ensures value { IfOk result (λ v. v ≡ slice_index (copy (world R.Row.stores self.now) machine) object) }
     {
         self.known_machine(machine)?;
         if object >= self.object_count() {

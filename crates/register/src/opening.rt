@@ -12,7 +12,7 @@ use stores::Row;
 
 impl<R: Row> Register<R> {
     pub fn open(row: R) -> Register<R>
-        ensures { world result ≡ opened (R.Row.stores row) }
+        ensures { world R.Row.stores result ≡ opened (R.Row.stores row) }
     {
         let opened = check_row(&row);
         Register {

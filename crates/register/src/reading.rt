@@ -17,7 +17,7 @@ use stores::Row;
 
 impl<R: Row> Register<R> {
     pub(crate) fn known_machine(&self, machine: u8) -> Result<(), Refusal>
-        ensures { answer_number result ≡ first (not_opened (world self.now) ∷ no_such_machine (world self.now) machine ∷ []) }
+        ensures { answer_number result ≡ first (not_opened (world R.Row.stores self.now) ∷ no_such_machine (world R.Row.stores self.now) machine ∷ []) }
     {
         self.opened?;
         if machine >= self.row.count().min(8) {
@@ -27,7 +27,7 @@ impl<R: Row> Register<R> {
     }
 
     pub(crate) fn running_machine(&self, machine: u8) -> Result<(), Refusal>
-        ensures { answer_number result ≡ first (not_opened (world self.now) ∷ no_such_machine (world self.now) machine ∷ is_down (world self.now) machine ∷ []) }
+        ensures { answer_number result ≡ first (not_opened (world R.Row.stores self.now) ∷ no_such_machine (world R.Row.stores self.now) machine ∷ is_down (world R.Row.stores self.now) machine ∷ []) }
     {
         self.known_machine(machine)?;
         if !self.is_up(machine) {
@@ -37,13 +37,13 @@ impl<R: Row> Register<R> {
     }
 
     pub(crate) fn is_up(&self, machine: u8) -> bool
-        ensures { result ≡ is_up (world self.now) machine }
+        ensures { result ≡ is_up (world R.Row.stores self.now) machine }
     {
         self.up.get(machine as usize).copied().unwrap_or(false)
     }
 
     pub(crate) fn set_up(&mut self, machine: u8, flag: bool)
-        ensures { world self.new ≡ with_up (world self.old) machine flag }
+        ensures { world R.Row.stores self.new ≡ with_up (world R.Row.stores self.old) machine flag }
     {
         let machine = machine as usize;
         if machine < self.up.len() {
@@ -53,22 +53,22 @@ impl<R: Row> Register<R> {
 
     // The machine is up again; what is pending there would be dropped.
     pub(crate) fn raise(&mut self, machine: u8)
-        ensures { world self.new ≡ raised_at (world self.old) machine }
+        ensures { world R.Row.stores self.new ≡ raised_at (world R.Row.stores self.old) machine }
     {
         self.set_up(machine, true);
     }
 
     // The object count, where there is a machine to ask.
     pub(crate) fn object_count(&self) -> usize
-        requires { 0 < machine_count (world self.now) }
-        ensures { result ≡ object_total (world self.now) }
+        requires { 0 < machine_count (world R.Row.stores self.now) }
+        ensures { result ≡ object_total (world R.Row.stores self.now) }
     {
         self.row.object_count(0).unwrap_or(0)
     }
 
     pub(crate) fn readable(&self, machine: u8, list: &[u8], buffer: usize) -> Result<(), Refusal>
-        ensures number { answer_number result ≡ answer no_orders (call_read machine list.now buffer) (world self.now) }
-        ensures fits { OnOk result ((machine < machine_count (world self.now)) × (length list.now ≤ buffer) × (length list.now ≤ 8)) }
+        ensures number { answer_number result ≡ answer no_orders (call_read machine list.now buffer) (world R.Row.stores self.now) }
+        ensures fits { OnOk result ((machine < machine_count (world R.Row.stores self.now)) × (length list.now ≤ buffer) × (length list.now ≤ 8)) }
     {
         self.running_machine(machine)?;
         ObjectList::check(list, self.object_count())?;

@@ -1,10 +1,9 @@
 // What a register holds.
 use crate::refusals::Refusal;
 use std::marker::Model;
-use stores::Row;
 
 #[derive(Drop)]
-pub struct Register<R: Row> {
+pub struct Register<R> {
     pub(crate) row: R,
     // or why the register was not well opened
     pub(crate) opened: Result<(), Refusal>,
@@ -12,13 +11,12 @@ pub struct Register<R: Row> {
     pub(crate) up: [bool; 8],
 }
 
-// A docket is a function, which no `Value` may be. So this is no world of the model; `world` makes one of it.
-impl<R: Row> Model for Register<R> {
+// A docket is a function, which no `Value` may be. So this is no world of the model; `world` makes one of it. The row is seen
+// whole: what its type says of its stores, their number and their floors, holds of any register over it.
+impl<R> Model for Register<R> {
     ghost use Rattle.register.specs.State.{RegisterState};
 
-    ghost Value = { RegisterState };
+    ghost Value = { RegisterState R };
 
-    ghost use Rattle.register.specs.Refusals.{answer_number};
-
-    ghost view = { λ r. record { opening = answer_number r.opened; up = r.up; stores = R.Row.stores r.row } };
+    ghost view = { λ r. record { opened = r.opened; up = r.up; row = r.row } };
 }

@@ -13,7 +13,7 @@ use stores::Row;
 
 // What came of a run: the register as it is left, an outcome for each step that was run, and the fault that ended it.
 #[derive(Drop)]
-pub struct FinishedRun<R: Row> {
+pub struct FinishedRun<R> {
     pub register: Register<R>,
     pub outcomes: Vec<Outcome>,
     pub fault: Option<RunFault>,
@@ -22,7 +22,7 @@ pub struct FinishedRun<R: Row> {
 // Loads the file's opening values into the row and makes its calls. A fault of the header loads nothing; a fault of a
 // step leaves the steps before it as they are. Where memory is short the row is given back untouched.
 pub fn run<R: Row>(heap: Global, file: &[u8], row: R) -> Result<FinishedRun<R>, AllocFailed<R>>
-    ensures finished { IfOk result (λ f. Finishes (R.Row.stores row) file.now f.outcomes.items f.fault (world f.register)) }
+    ensures finished { IfOk result (λ f. Finishes (R.Row.stores row) file.now f.outcomes.items f.fault (world R.Row.stores f.register)) }
     ensures untouched { IfErr result (λ back. back.value ≡ row) }
 {
     match read_fitting_header(file, &row) {
@@ -43,7 +43,7 @@ fn run_fitting<R: Row>(
     row: R,
 ) -> Result<FinishedRun<R>, AllocFailed<R>>
     requires { fitting_header (R.Row.stores row) bytes.now ≡ Ok header }
-    ensures finished { IfOk result (λ f. FileRun (R.Row.stores row) bytes.now f.outcomes.items f.fault (world f.register)) }
+    ensures finished { IfOk result (λ f. FileRun (R.Row.stores row) bytes.now f.outcomes.items f.fault (world R.Row.stores f.register)) }
     ensures untouched { IfErr result (λ back. back.value ≡ row) }
 {
     let file = SoundFile { bytes, header };
@@ -59,7 +59,7 @@ impl SoundFile<'_> {
         requires fits { fitting_header (R.Row.stores row) self.now.bytes.now ≡ Ok self.now.header }
         requires empty { outcomes.items ≡ [] }
         requires reserved { length self.now.bytes.now ≤ 4 + 5 * vec_capacity outcomes }
-        ensures { FileRun (R.Row.stores row) self.now.bytes.now result.outcomes.items result.fault (world result.register) }
+        ensures { FileRun (R.Row.stores row) self.now.bytes.now result.outcomes.items result.fault (world R.Row.stores result.register) }
     {
         let mut row = row;
         self.load(&mut row);

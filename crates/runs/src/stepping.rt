@@ -17,7 +17,7 @@ use stores::Row;
 
 // The call of one step: a match, since the calls are a closed list, each with arguments of its own. A read is lent a buffer of eight values.
 pub(crate) fn perform<R: Row>(register: &mut Register<R>, step: Step<'_>) -> Outcome
-    ensures { WorldStep no_orders (world register.old) (event_of (call_of step.entry) result) (world register.new) }
+    ensures { WorldStep no_orders (world R.Row.stores register.old) (event_of (call_of step.entry) result) (world R.Row.stores register.new) }
 {
     match step {
         Step::Down { machine } => Outcome::of(register.down(machine)),
@@ -28,7 +28,7 @@ pub(crate) fn perform<R: Row>(register: &mut Register<R>, step: Step<'_>) -> Out
 }
 
 fn read_out<R: Row>(register: &Register<R>, machine: u8, list: &[u8]) -> Outcome
-    ensures { WorldStep no_orders (world register.now) (event_of (call_read machine list.now 8) result) (world register.now) }
+    ensures { WorldStep no_orders (world R.Row.stores register.now) (event_of (call_read machine list.now 8) result) (world R.Row.stores register.now) }
 {
     let mut buffer = [0; 8];
     match register.read(machine, list, &mut buffer) {
@@ -46,7 +46,7 @@ impl SoundFile<'_> {
     ) -> Result<(), RunFault>
         requires empty { outcomes.old.items ≡ [] }
         requires reserved { length self.now.bytes.now ≤ 4 + 5 * vec_capacity outcomes.old }
-        ensures steps { Ran (world register.old) (calls_from self.now.header.steps self.now.bytes.now (value_place self.now.header.objects)) outcomes.new.items (world register.new) }
+        ensures steps { Ran (world R.Row.stores register.old) (calls_from self.now.header.steps self.now.bytes.now (value_place self.now.header.objects)) outcomes.new.items (world R.Row.stores register.new) }
         ensures end { result_err result ≡ end_from self.now.header.steps self.now.bytes.now (value_place self.now.header.objects) 0 }
     {
         for step in Steps::new(self.bytes, self.header) {

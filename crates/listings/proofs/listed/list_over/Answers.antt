@@ -9,7 +9,7 @@ returns g c =
     record {
       outcomes = vec_items finished.outcomes;
       fault = finished.fault;
-      left = world finished.register;
+      left = world g.R.Row.stores finished.register;
       run = c.in-Ok.ensures.finished;
       lines = c.in_ok-listing_text.ensures ∙ ap (λ os. listing_text os finished.fault) c.as_slice.ensures.value;
     }

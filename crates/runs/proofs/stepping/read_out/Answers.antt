@@ -8,7 +8,7 @@ use Rattle.runs.proofs.stepping.read_out.Goals as goal
 
 pub returns-in-Ok : goal.returns-in-Ok
 returns-in-Ok g c =
-    let w = world c.args.register.now in
+    let w = world g.R.Row.stores c.args.register.now in
     let list = c.args.list.now in
     let answered = c.in-Ok.ensures in
     subst (λ (vs : List ℕ). Step no_orders w (record { call = read c.args.machine list 8; number = 0; values = vs }) w)

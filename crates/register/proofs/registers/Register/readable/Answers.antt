@@ -7,7 +7,7 @@ use Rattle.register.proofs.registers.Register.readable.Goals as goal
 
 pub returns-in_err-running_machine : goal.returns-in_err-running_machine
 returns-in_err-running_machine g c =
-    let w = world c.args.self.now in
+    let w = world g.R.Row.stores c.args.self.now in
     let p = err_from_is_err_and c.from_residual.result c.from_residual.ensures.1 in
     rw (p.1, p.2) (record {
       number = refusal_stands c.in_err-running_machine.field-0.0

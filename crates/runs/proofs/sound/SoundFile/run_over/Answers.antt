@@ -18,6 +18,6 @@ returns g c =
     let header = c.args.self.now.header in
     let file = c.args.self.now.bytes.now in
     file_run (g.R.Row.stores c.args.row) file header (g.R.Row.stores c.load.new.row) (g.met.R.Row.floors_are_ample c.args.row) c.requires.fits c.load.ensures
-    (vec_items c.run_steps-ended.new.outcomes) c.err.result (world c.run_steps-ended.new.register)
-    (subst (λ (w : World). Ran w (calls_from header.steps file (value_place header.objects)) (vec_items c.run_steps-ended.new.outcomes) (world c.run_steps-ended.new.register)) c.open-register.ensures c.run_steps-ended.ensures.steps)
+    (vec_items c.run_steps-ended.new.outcomes) c.err.result (world g.R.Row.stores c.run_steps-ended.new.register)
+    (subst (λ (w : World). Ran w (calls_from header.steps file (value_place header.objects)) (vec_items c.run_steps-ended.new.outcomes) (world g.R.Row.stores c.run_steps-ended.new.register)) c.open-register.ensures c.run_steps-ended.ensures.steps)
     (c.err.ensures.value ∙ c.run_steps-ended.ensures.end)
