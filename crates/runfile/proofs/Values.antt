@@ -1,4 +1,4 @@
--- The list of the opening values: its length, its elements, and one step of a loop over it.
+-- The list of the opening values: its length and its elements.
 use Rattle.std.proofs.Common.{◌≡◌, ℕ, zero, suc, ◌+◌, ◌<◌, List, length, get_or, refl, ap, ◌∙◌, add-zero, arith}
 use Rattle.runfile.specs.HeaderFormat.{object_count, opening_at, opening_values, values_from}
 
